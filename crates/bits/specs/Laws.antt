@@ -1,0 +1,25 @@
+-- What is claimed of fields, once over place and width.
+use Prim.Native.Nat.{ℕ, _+_, _-_, _^_, _≤_, _<_}
+use mathlib.Core.Bool.{cond}
+use mathlib.Core.Path.{_≡_}
+use lib.Dec.{eqb}
+use Rattle.bits.specs.Fields.{field, inserted, masked}
+
+-- A field that is set reads as its value, every field beside it reads as before, and the byte stays a byte.
+pub record Replaced (b p w v : ℕ) : Type 0 where
+  pub value : field (inserted b p w v) p w ≡ v
+  pub above : (q u : ℕ) → w + p ≤ q → field (inserted b p w v) q u ≡ field b q u
+  pub below : (q u : ℕ) → u + q ≤ p → field (inserted b p w v) q u ≡ field b q u
+  pub small : (n : ℕ) → w + p ≤ n → b < 2 ^ n → inserted b p w v < 2 ^ n
+
+-- A write through a mask takes the new byte's bits where the mask has them, and the old byte's elsewhere.
+abbrev pub Selects : ℕ → ℕ → ℕ → Type 0
+Selects old mask new = (i : ℕ) → i < 8 → field (masked old mask new) i 1 ≡ cond (eqb (field mask i 1) 1) (field new i 1) (field old i 1)
+
+-- The mask has every bit of the field.
+abbrev pub Covers : ℕ → ℕ → ℕ → Type 0
+Covers mask p w = field mask p w ≡ 2 ^ w - 1
+
+-- A write through a mask that has the whole field sets the field and nothing else.
+abbrev pub PassesMask : ℕ → ℕ → ℕ → ℕ → ℕ → Type 0
+PassesMask b p w v mask = Covers mask p w → masked b mask (inserted b p w v) ≡ inserted b p w v
