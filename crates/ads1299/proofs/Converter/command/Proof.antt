@@ -1,0 +1,16 @@
+use Rattle.ads1299.proofs.Converter.command.Statement.{statement}
+use Rattle.ads1299.proofs.Converter.command.Tie as tie
+use Rattle.ads1299.specs.Step.{commanded}
+use borrow.Author.Needs.{needs}
+
+pub command-spec : {M : Type 1} → statement M
+unfolding commanded
+command-spec =
+    tie.close
+    (tie.spec
+    (λ c κs. search needs)
+    (λ c κs. search needs)
+    (λ c κs. search needs)
+    (λ c κs. search needs)
+    (λ c. simp (← c .before .before .before .acts .ensures, c .before .before .if1 .taken, ← c .before .empty .ensures, ← c .perform .ensures))
+    (λ c. simp (← c .before .before .acts .ensures, c .before .if1 .left, ← c .ignore .ensures)))

@@ -1,0 +1,13 @@
+use Rattle.ads1299.proofs.Converter.is_valid_place.Statement.{statement}
+use Rattle.ads1299.proofs.Converter.is_valid_place.Tie as tie
+use Rattle.ads1299.specs.Validity.{validPlace}
+use borrow.Author.Needs.{needs}
+
+pub is-valid-place-spec : {M : Type 1} → statement M
+is-valid-place-spec =
+    tie.close
+    (tie.spec
+    (λ c. search needs)
+    (λ c. search needs)
+    (λ c. search needs)
+    (λ c. simp (c .before .output .given .1)))

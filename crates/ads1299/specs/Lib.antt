@@ -1,0 +1,10 @@
+pub mod Owners
+pub mod Registers
+pub mod State
+pub mod PowerUp
+pub mod Opcodes
+pub mod Commands
+pub mod Output
+pub mod Validity
+pub mod Step
+pub mod Deselect

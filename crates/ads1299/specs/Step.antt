@@ -1,0 +1,94 @@
+-- The byte step (document 01, "The converter, byte by byte"): the byte that goes out, and the state after the byte that comes in.
+use Prim.Native.Nat.{ℕ, _+_, _-_}
+use mathlib.Core.Bool.{Bool, true, false, cond}
+use lib.Dec.{leb, ltb}
+use lib.ListN.{getD}
+use Rattle.refusal.specs.Numbers.{none, invalidState}
+use Rattle.registers.specs.Addresses.{ID}
+use Rattle.ads1299.specs.declared.Converter.{Converter}
+use Rattle.ads1299.specs.declared.Transfer.{Transfer}
+use Rattle.ads1299.specs.declared.Stepped.{Stepped}
+use Rattle.ads1299.specs.declared.Direction.{Direction}
+use Rattle.ads1299.specs.declared.Direction.the-variants.{Read, Write}
+use Rattle.ads1299.specs.declared.Output.the-variants.{At}
+use Rattle.ads1299.specs.declared.Phase.{Phase}
+use Rattle.ads1299.specs.declared.Phase.the-variants.{Waiting, Held, Counting}
+use Rattle.ads1299.specs.declared.Command.{Command}
+use Rattle.ads1299.specs.declared.Command.the-variants.{Wakeup, Standby, Reset, Start, Stop, Rdatac, Sdatac, Rdata, Rreg, Wreg, Unlisted}
+use Rattle.ads1299.specs.Registers.{registerAt, written}
+use Rattle.ads1299.specs.State.{withRegisters, withOutput, withContinuous, withStandby, withConverting, withShifting, withPhase}
+use Rattle.ads1299.specs.PowerUp.{restored}
+use Rattle.ads1299.specs.Commands.{decoded, acts}
+use Rattle.ads1299.specs.Output.{pending, emptied, ignored}
+use Rattle.ads1299.specs.Validity.{valid, lastAddress}
+
+abbrev pub transfer : Direction → ℕ → ℕ → Transfer
+transfer direction address remaining = record { direction = direction; address = address; remaining = remaining }
+
+-- gives the state after the first byte of a transfer; its number of registers is not known yet
+abbrev pub held : Converter → Direction → ℕ → Converter
+held s direction a = withPhase s (Held (transfer direction a 0))
+
+-- gives the state after a command that acts, from the state with its output emptied: what the command's name says, nothing else
+unfoldable pub effect : Command → Converter → Converter
+effect Wakeup s = withStandby s false
+effect Standby s = withStandby s true
+effect Reset s = restored (getD (s .registers) ID 0) (s .owners)
+effect Start s = withConverting s true
+effect Stop s = withConverting s false
+effect Rdatac s = withContinuous s true
+effect Sdatac s = withContinuous s false
+effect Rdata s = withShifting (withOutput s (At 0)) (s .latest)
+effect (Rreg a) s = held s Read a
+effect (Wreg a) s = held s Write a
+effect Unlisted s = s
+
+-- gives the state after a byte that comes while the converter waits
+unfoldable pub commanded : Converter → Command → Converter
+commanded s c = cond (acts s c) (effect c (emptied s)) (ignored s)
+
+-- gives the state after the second byte of a transfer, the number of registers minus one: above 31 the command is dropped
+unfoldable pub begun : Converter → Transfer → ℕ → Converter
+begun s t b = withPhase s (cond (leb b lastAddress) (Counting (transfer (t .direction) (t .address) (b + 1))) Waiting)
+
+-- gives where a transfer stands after one more of its registers
+unfoldable pub remainder : Transfer → Phase
+remainder t = cond (leb (t .remaining) 1) Waiting (Counting (transfer (t .direction) (t .address + 1) (t .remaining - 1)))
+
+-- gives the state after a register's byte: a read changes nothing else, a write that register alone
+abbrev pub countedIn : Direction → Converter → Transfer → ℕ → Converter
+countedIn Read s t b = withPhase s (remainder t)
+countedIn Write s t b = withRegisters (withPhase s (remainder t)) (written (s .registers) (t .address) b)
+
+unfoldable pub counted : Converter → Transfer → ℕ → Converter
+counted s t b = countedIn (t .direction) s t b
+
+-- gives the byte that goes out while a transfer counts: the register as it stands at this moment
+abbrev pub countedOut : Direction → Converter → Transfer → ℕ
+countedOut Read s t = registerAt (s .registers) (t .address)
+countedOut Write s t = pending (s .output) (s .shifting)
+
+abbrev pub outgoingIn : Phase → Converter → ℕ
+outgoingIn Waiting s = pending (s .output) (s .shifting)
+outgoingIn (Held t) s = pending (s .output) (s .shifting)
+outgoingIn (Counting t) s = countedOut (t .direction) s t
+
+-- gives the byte that goes out, which is fixed before the byte that comes in is acted on
+unfoldable pub outgoing : Converter → ℕ
+outgoing s = outgoingIn (s .phase) s
+
+abbrev pub followedIn : Phase → Converter → ℕ → Converter
+followedIn Waiting s b = commanded s (decoded b)
+followedIn (Held t) s b = begun s t b
+followedIn (Counting t) s b = counted s t b
+
+-- gives the state after a byte
+unfoldable pub followed : Converter → ℕ → Converter
+followed s b = followedIn (s .phase) s b
+
+-- gives the answer to a byte: refused only by 13
+unfoldable pub stepped : Converter → ℕ → Stepped
+stepped s b =
+    cond (valid s)
+    (record { refusal = none; out = outgoing s; next = followed s b })
+    (record { refusal = invalidState; out = 0; next = s })
