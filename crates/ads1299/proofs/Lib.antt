@@ -1,1 +1,3 @@
 pub mod ValidState
+pub mod StaysValid
+pub mod Waiting

@@ -8,3 +8,6 @@ pub mod Output
 pub mod Validity
 pub mod Step
 pub mod Deselect
+pub mod Sample
+pub mod Run
+pub mod Claims

@@ -1,0 +1,102 @@
+// Samples: what the converter makes of eight codes and the two comparator bytes.
+ghost use mathlib.Core.Path.{_≡_};
+ghost use Rattle.ads1299.specs.Sample.{running, complete, sampleRefusal, withStatus, framed, taken, sampled};
+use crate::Converter;
+use crate::Moved;
+use crate::Output;
+
+impl Converter {
+    fn is_running(self) -> bool
+        ensures { λ r. ⌜ r ≡ running self ⌝ }
+    {
+        if self.converting {
+            !self.standby
+        } else {
+            false
+        }
+    }
+
+    fn is_complete(codes: &[i32]) -> bool
+        ensures { λ r. ⌜ r ≡ complete (now (codes .entry)) ⌝ }
+    {
+        if codes.len() == registers::CHANNELS {
+            frame::all_in_range(codes)
+        } else {
+            false
+        }
+    }
+
+    fn refuse_sample(self, codes: &[i32]) -> u8
+        ensures { λ r. ⌜ r ≡ sampleRefusal self (now (codes .entry)) ⌝ }
+    {
+        if self.is_valid() {
+            if self.is_running() {
+                if Self::is_complete(codes) {
+                    refusal::NONE
+                } else {
+                    refusal::BAD_SAMPLE
+                }
+            } else {
+                refusal::NOT_CONVERTING
+            }
+        } else {
+            refusal::INVALID_STATE
+        }
+    }
+
+    fn with_status(registers: [u8; 24], p: u8, n: u8) -> [u8; 24]
+        ensures { λ r. ⌜ r ≡ withStatus registers p n ⌝ }
+    {
+        let mut next = registers;
+        next[registers::LOFF_STATP] = p;
+        next[registers::LOFF_STATN] = n;
+        next
+    }
+
+    fn with_frame(self, frame: [u8; 27]) -> Converter
+        ensures { λ r. ⌜ r ≡ framed self frame ⌝ }
+    {
+        if self.continuous {
+            Converter {
+                latest: frame,
+                output: Output::At(0),
+                shifting: frame,
+                ..self
+            }
+        } else {
+            Converter {
+                latest: frame,
+                ..self
+            }
+        }
+    }
+
+    fn take(self, codes: &[i32], p: u8, n: u8) -> Converter
+        ensures { λ r. ⌜ r ≡ taken self (now (codes .entry)) p n ⌝ }
+    {
+        let before = self.registers;
+        let registers = Self::with_status(before, p, n);
+        let frame = frame::build(registers, codes, p, n);
+        let next = Converter { registers, ..self };
+        next.with_frame(frame)
+    }
+
+    // Takes a sample: the codes of channels 1 to 8, and the comparator bytes P and N.
+    pub fn sample(self, codes: &[i32], p: u8, n: u8) -> Moved
+        ensures { λ r. ⌜ r ≡ sampled self (now (codes .entry)) p n ⌝ }
+    {
+        let number = self.refuse_sample(codes);
+        if number == refusal::NONE {
+            let next = self.take(codes, p, n);
+            Moved {
+                refusal: refusal::NONE,
+                next,
+            }
+        } else {
+            Moved {
+                refusal: number,
+                next: self,
+            }
+        }
+    }
+}

@@ -1,0 +1,15 @@
+use Rattle.frame.proofs.channel_bit.Statement.{statement}
+use Rattle.frame.proofs.channel_bit.Tie as tie
+use Rattle.frame.specs.Words.{bit}
+use Prim.Native.Nat.{_-_}
+use borrow.Author.Needs.{needs}
+use mathlib.Core.Path.{_≡_}
+use native.Mathlib.Omega.{arith}
+
+pub channel-bit-spec : {M : Type 1} → statement M
+channel-bit-spec =
+    tie.close
+    (tie.spec
+    (λ c κs. search needs) (λ c. search needs) (λ c κs. search needs)
+    (λ c. let e : c .before .before .args .channel - 1 ≡ 0 = omega arith in rw e (c .bit .ensures))
+    (λ c. search needs))

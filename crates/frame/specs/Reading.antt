@@ -1,0 +1,48 @@
+-- What a frame says of a channel (document 01, "Samples and frames").
+use Prim.Native.Nat.{ℕ, _-_, _*_, _/_, _%_, _^_}
+use mathlib.Core.Path.{_≡_}
+use mathlib.Core.Bool.{Bool, _&&_}
+use mathlib.Core.List.{List}
+use lib.Dec.{eqb}
+use lib.IntN.{ℤ}
+use lib.ListN.{length, take, drop, getD}
+use Rattle.frame.specs.Codes.{codeOf}
+use Rattle.frame.specs.Words.{bit, wordAt}
+use Rattle.frame.specs.Frame.{frameMark, frameLength}
+
+-- gives the first four bits of a list of bytes
+unfoldable pub leadingBits : List ℕ → ℕ
+leadingBits frame = getD frame 0 0 / 2 ^ 4
+
+-- tells whether bytes are a frame, by their number and the first four bits
+unfoldable pub isFrame : List ℕ → Bool
+isFrame frame = eqb (length frame) frameLength && eqb (leadingBits frame) frameMark
+
+-- gives the three bytes of a channel; channel 0 has those of the status word
+unfoldable pub channelBytes : List ℕ → ℕ → List ℕ
+channelBytes frame channel = take 3 (drop (3 * channel) frame)
+
+-- gives the code of a channel; channel 0 has that of the status word, and missing bytes count as 0
+unfoldable pub codeAt : List ℕ → ℕ → ℤ
+codeAt frame channel = codeOf (wordAt frame channel)
+
+-- gives P, the status word's bits 19:12
+unfoldable pub statusP : List ℕ → ℕ
+statusP frame = wordAt frame 0 / 2 ^ 12 % 2 ^ 8
+
+-- gives N, the status word's bits 11:4
+unfoldable pub statusN : List ℕ → ℕ
+statusN frame = wordAt frame 0 / 2 ^ 4 % 2 ^ 8
+
+-- tells whether a channel's bit of P is 1; channel 0 counts as 1, and a channel above 8 has none
+unfoldable pub leadOffP : List ℕ → ℕ → Bool
+leadOffP frame channel = bit (statusP frame) (channel - 1)
+
+-- tells whether a channel's bit of N is 1; channel 0 counts as 1, and a channel above 8 has none
+unfoldable pub leadOffN : List ℕ → ℕ → Bool
+leadOffN frame channel = bit (statusN frame) (channel - 1)
+
+-- bytes that agree in number and first four bits are both a frame or neither, and those that agree in a channel's three bytes give it one code
+pub record ReadsOnly (first second : List ℕ) (channel : ℕ) : Type 0 where
+  pub framed : length first ≡ length second → leadingBits first ≡ leadingBits second → isFrame first ≡ isFrame second
+  pub coded : channelBytes first channel ≡ channelBytes second channel → codeAt first channel ≡ codeAt second channel
