@@ -1,3 +1,4 @@
 pub mod ValidState
 pub mod StaysValid
 pub mod Waiting
+pub mod Figures

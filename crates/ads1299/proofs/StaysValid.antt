@@ -7,61 +7,41 @@ use native.Mathlib.Nat.{mod-lt}
 use native.Mathlib.Omega.{arith}
 use borrow.Author.Tests.{eqb-true, eq-eqb, leb-true, leb-false, le-leb, ltb-true, not-true}
 use lib.Dec.{leb, ltb, eqb}
+use lib.IntN.{ℤ}
 use lib.ListN.{getD, set}
+use lib.Seq.{getD-set-other}
 use lib.Bits.{bitAnd, and-zero-r, and-mask}
 use Rattle.bits.specs.Fields.{masked}
 use Rattle.cases.proofs.Cases.{either, and-both}
-use Rattle.registers.specs.Addresses.{ID}
+use Rattle.refusal.specs.First.{accepted}
+use Rattle.registers.specs.Addresses.{ID, LOFF_STATP, LOFF_STATN}
 use Rattle.ads1299.specs.declared.Converter.{Converter}
-use Rattle.ads1299.specs.declared.Transfer.{Transfer}
-use Rattle.ads1299.specs.declared.Direction.{Direction}
-use Rattle.ads1299.specs.declared.Direction.the-variants.{Read, Write}
-use Rattle.ads1299.specs.declared.Output.{Output}
-use Rattle.ads1299.specs.declared.Output.the-variants.{Empty, At}
-use Rattle.ads1299.specs.declared.Phase.{Phase}
-use Rattle.ads1299.specs.declared.Phase.the-variants.{Waiting, Held, Counting}
-use Rattle.ads1299.specs.declared.Command.{Command}
-use Rattle.ads1299.specs.declared.Command.the-variants.{Wakeup, Standby, Reset, Start, Stop, Rdatac, Sdatac, Rdata, Rreg, Wreg, Unlisted}
+use Rattle.protocol.specs.declared.Transfer.{Transfer}
+use Rattle.protocol.specs.declared.Direction.{Direction}
+use Rattle.protocol.specs.declared.Direction.the-variants.{Read, Write}
+use Rattle.protocol.specs.declared.Output.{Output}
+use Rattle.protocol.specs.declared.Output.the-variants.{Empty, At}
+use Rattle.protocol.specs.declared.Phase.{Phase}
+use Rattle.protocol.specs.declared.Phase.the-variants.{Waiting, Held, Counting}
+use Rattle.protocol.specs.declared.Command.{Command}
+use Rattle.protocol.specs.declared.Command.the-variants.{Wakeup, Standby, Reset, Start, Stop, Rdatac, Sdatac, Rdata, Rreg, Wreg, Unlisted}
 use Rattle.ads1299.specs.PowerUp.{validId, restored}
 use Rattle.ads1299.specs.Registers.{powerUp, masks, written}
-use Rattle.ads1299.specs.State.{withPhase}
-use Rattle.ads1299.specs.Commands.{registerCommand, decoded, acts, actsAwake}
-use Rattle.ads1299.specs.Output.{advanced, readBack, emptied, ignored}
-use Rattle.ads1299.specs.Validity.{validPlace, countable, interruptible, validPhase, valid}
-use Rattle.ads1299.specs.Step.{transfer, effect, commanded, begun, remainder, countedIn, counted, followedIn, followed, stepped}
+use Rattle.ads1299.specs.declared.Moved.{Moved}
+use Rattle.ads1299.specs.State.{withOutput, withPhase}
+use Rattle.protocol.specs.Commands.{decoded, acts, actsAwake}
+use Rattle.protocol.specs.Transfers.{validPhase, begun, remainder}
+use Rattle.protocol.specs.Output.{validPlace, advanced}
+use Rattle.protocol.proofs.Commands.{lowAddress, decoded-low}
+use Rattle.protocol.proofs.Transfers.{begun-valid, remainder-valid}
+use Rattle.protocol.proofs.OutputPlace.{advanced-valid}
+use Rattle.ads1299.specs.Output.{readBack, emptied, ignored}
+use Rattle.ads1299.specs.Validity.{interruptible, valid}
+use Rattle.ads1299.specs.Step.{effect, commanded, countedIn, counted, followedIn, followed, stepped}
 use Rattle.ads1299.specs.Deselect.{deselected}
+use Rattle.ads1299.specs.Sample.{sampleRefusal, withStatus, framed, taken, sampled}
 use Rattle.ads1299.specs.Claims.{StaysValid}
-use Rattle.ads1299.proofs.ValidState.{Parts, parts, whole, Bounds, bounds, in-bounds}
-
-advanced-valid : (o : Output) (again : Bool) → validPlace o ≡ true → validPlace (advanced o again) ≡ true
-advanced-valid Empty again e = refl
-advanced-valid (At place) again e =
-    let P : Output → Type 0 = λ o. validPlace o ≡ true in
-    either P (ltb place 26) (λ t. le-leb (place + 1) 26 (omega (arith, ltb-true place 26 t))) (λ t. either P again (λ u. refl) (λ u. refl))
-
--- the first address that a byte gives is at most 31
-abbrev lowAddress : Command → Bool
-lowAddress Wakeup = true
-lowAddress Standby = true
-lowAddress Reset = true
-lowAddress Start = true
-lowAddress Stop = true
-lowAddress Rdatac = true
-lowAddress Sdatac = true
-lowAddress Rdata = true
-lowAddress (Rreg a) = leb a 31
-lowAddress (Wreg a) = leb a 31
-lowAddress Unlisted = true
-
-decoded-low : (b : ℕ) → lowAddress (decoded b) ≡ true
-unfolding decoded registerCommand
-decoded-low b =
-    let P : Command → Type 0 = λ c. lowAddress c ≡ true in
-    let low : leb (b % 32) 31 ≡ true = le-leb (b % 32) 31 (omega arith) in
-    let named : (n : ℕ) (c d : Command) → P c → P d → P (cond (eqb b n) c d) = λ n c d x y. either P (eqb b n) (λ u. x) (λ u. y) in
-    named 0x02 _ _ refl (named 0x04 _ _ refl (named 0x06 _ _ refl (named 0x08 _ _ refl (named 0x0A _ _ refl (named 0x10 _ _ refl
-    (named 0x11 _ _ refl (named 0x12 _ _ refl
-    (either P (eqb (b - b % 32) 0x20) (λ u. low) (λ u. either P (eqb (b - b % 32) 0x40) (λ u. low) (λ u. refl))))))))))
+use Rattle.ads1299.proofs.ValidState.{Parts, parts, whole}
 
 -- a register command acts awake, in command mode
 opens : (standby continuous : Bool) → cond standby false (not continuous) ≡ true → (standby ≡ false) × (continuous ≡ false)
@@ -74,7 +54,7 @@ module _ (s : Converter) (p : Parts s) where
   idle t r o place w = record { id = rw r (p .id); place = place; phase = rw w; owners = rw o (p .owners) }
 
   -- what a command that acts leaves, once the output is empty
-  effect-valid : (c : Command) → s .phase ≡ Waiting → lowAddress c ≡ true → acts s c ≡ true → Parts (effect c (emptied s))
+  effect-valid : (c : Command) → s .phase ≡ Waiting → lowAddress c ≡ true → acts c (s .standby) (s .continuous) (s .converting) ≡ true → Parts (effect c (emptied s))
   unfolding effect emptied restored powerUp acts
   effect-valid Wakeup w l a = idle _ refl refl refl w
   effect-valid Standby w l a = idle _ refl refl refl w
@@ -91,29 +71,8 @@ module _ (s : Converter) (p : Parts s) where
   commanded-valid : (b : ℕ) → s .phase ≡ Waiting → Parts (commanded s (decoded b))
   unfolding commanded ignored
   commanded-valid b w =
-      either Parts (acts s (decoded b)) (effect-valid (decoded b) w (decoded-low b))
+      either Parts (acts (decoded b) (s .standby) (s .continuous) (s .converting)) (effect-valid (decoded b) w (decoded-low b))
       (λ e. idle _ refl refl (advanced-valid (s .output) (readBack (s .registers)) (p .place)) w)
-
-  begun-valid : (t : Transfer) (b : ℕ) → s .phase ≡ Held t → Parts (begun s t b)
-  unfolding begun
-  begun-valid t b e =
-      let h = and-both (interruptible s) (leb (t .address) 31) (rw e at (p .phase)) in
-      let a = leb-true (t .address) 31 (h .1) in
-      record {
-        id = p .id;
-        place = p .place;
-        phase = either (λ (x : Phase). validPhase x (interruptible s) ≡ true) (leb b 31)
-            (λ u. let l = leb-true b 31 u in rw (h .0) (in-bounds (transfer (t .direction) (t .address) (b + 1)) (record { some = omega arith; few = omega arith; low = omega arith }))) (λ u. refl);
-        owners = p .owners;
-      }
-
-  remainder-valid : (t : Transfer) → s .phase ≡ Counting t → validPhase (remainder t) (interruptible s) ≡ true
-  unfolding remainder
-  remainder-valid t e =
-      let h = and-both (interruptible s) (countable t) (rw e at (p .phase)) in
-      let b = bounds t (h .1) in
-      either (λ (x : Phase). validPhase x (interruptible s) ≡ true) (leb (t .remaining) 1) (λ u. refl)
-      (λ u. let l = leb-false (t .remaining) 1 u in rw (h .0) (in-bounds (transfer (t .direction) (t .address + 1) (t .remaining - 1)) (record { some = omega arith; few = omega arith; low = omega arith })))
 
 -- the ID's mask has no bit
 id-kept : (registers : List ℕ) (a b : ℕ) → validId (getD registers ID 0) ≡ true → validId (getD (written registers a b) ID 0) ≡ true
@@ -124,14 +83,15 @@ id-kept (x ∷ xs) (suc a) b e = either (λ (r : List ℕ). eqb (getD r 0 0 % 32
 
 module _ (s : Converter) (p : Parts s) where
   counted-valid : (d : Direction) (t : Transfer) (b : ℕ) → s .phase ≡ Counting t → Parts (countedIn d s t b)
-  counted-valid Read t b e = record { id = p .id; place = p .place; phase = remainder-valid s p t e; owners = p .owners }
+  counted-valid Read t b e = record { id = p .id; place = p .place; phase = remainder-valid t (interruptible s) (rw e at (p .phase)); owners = p .owners }
   counted-valid Write t b e =
-      record { id = id-kept (s .registers) (t .address) b (p .id); place = p .place; phase = remainder-valid s p t e; owners = p .owners }
+      record { id = id-kept (s .registers) (t .address) b (p .id); place = p .place; phase = remainder-valid t (interruptible s) (rw e at (p .phase)); owners = p .owners }
 
   followed-in : (phase : Phase) (b : ℕ) → s .phase ≡ phase → Parts (followedIn phase s b)
   unfolding counted
   followed-in Waiting b e = commanded-valid s p b e
-  followed-in (Held t) b e = begun-valid s p t b e
+  followed-in (Held t) b e =
+      record { id = p .id; place = p .place; phase = begun-valid t b (interruptible s) (rw e at (p .phase)); owners = p .owners }
   followed-in (Counting t) b e = counted-valid (t .direction) t b e
 
   pub followed-valid : (b : ℕ) → Parts (followed s b)
@@ -142,16 +102,37 @@ module _ (s : Converter) (p : Parts s) where
   unfolding emptied
   deselected-valid = idle s p _ refl refl refl refl
 
+-- P and N do not reach the ID
+id-status : (registers : List ℕ) (p n : ℕ) → getD (withStatus registers p n) ID 0 ≡ getD registers ID 0
+unfolding withStatus
+id-status registers p n = rw (getD-set-other (set registers LOFF_STATP p) LOFF_STATN ID n 0 (λ e. omega arith), getD-set-other registers LOFF_STATP ID p 0 (λ e. omega arith))
+
+-- output comes with a sample in continuous mode alone, where no command stands half given
+module _ (s : Converter) (v : Parts s) where
+  framed-phase : (p : Phase) (o : Output) → s .continuous ≡ true → validPhase p (interruptible s) ≡ true → validPhase p (interruptible (withOutput s o)) ≡ true
+  framed-phase Waiting o c e = refl
+  framed-phase (Held t) o c e = absurd (false≢true (rw c at e))
+  framed-phase (Counting t) o c e = absurd (false≢true (rw c at e))
+
+  taken-valid : (codes : List ℤ) (p n : ℕ) → Parts (taken s codes p n)
+  unfolding taken framed
+  taken-valid codes p n =
+      let id : validId (getD (withStatus (s .registers) p n) ID 0) ≡ true = rw (id-status (s .registers) p n) (v .id) in
+      either Parts (s .continuous)
+      (λ c. record { id = id; place = refl; phase = framed-phase (s .phase) (At 0) c (v .phase); owners = v .owners })
+      (λ c. record { id = id; place = v .place; phase = v .phase; owners = v .owners })
+
 -- a byte that is not refused is followed
 pub next-is : (s : Converter) (b : ℕ) → valid s ≡ true → stepped s b .next ≡ followed s b
 unfolding stepped
 next-is s b v = rw v
 
 pub stays-valid : (s : Converter) → valid s ≡ true → StaysValid s
-unfolding deselected
+unfolding deselected sampled
 stays-valid s v =
     let p = parts s v in
     record {
       by-byte = λ b. rw (next-is s b v) (whole _ (followed-valid s p b));
       by-deselect = rw v (whole _ (deselected-valid s p));
+      by-sample = λ codes m n. either (λ (r : Moved). valid (r .next) ≡ true) (accepted (sampleRefusal s codes)) (λ e. whole _ (taken-valid s p codes m n)) (λ e. v);
     }

@@ -11,22 +11,24 @@ use Rattle.cases.proofs.Cases.{split, either, and-both}
 use Rattle.refusal.specs.Numbers.{none}
 use Rattle.ads1299.specs.declared.Converter.{Converter}
 use Rattle.ads1299.specs.declared.Moved.{Moved}
-use Rattle.ads1299.specs.declared.Transfer.{Transfer}
-use Rattle.ads1299.specs.declared.Direction.{Direction}
-use Rattle.ads1299.specs.declared.Direction.the-variants.{Read, Write}
-use Rattle.ads1299.specs.declared.Output.{Output}
-use Rattle.ads1299.specs.declared.Output.the-variants.{Empty, At}
-use Rattle.ads1299.specs.declared.Phase.{Phase}
-use Rattle.ads1299.specs.declared.Phase.the-variants.{Waiting, Held, Counting}
-use Rattle.ads1299.specs.Commands.{registerCommand, decoded, acts}
+use Rattle.protocol.specs.declared.Transfer.{Transfer}
+use Rattle.protocol.specs.declared.Direction.{Direction}
+use Rattle.protocol.specs.declared.Direction.the-variants.{Read, Write}
+use Rattle.protocol.specs.declared.Output.{Output}
+use Rattle.protocol.specs.declared.Output.the-variants.{Empty, At}
+use Rattle.protocol.specs.declared.Phase.{Phase}
+use Rattle.protocol.specs.declared.Phase.the-variants.{Waiting, Held, Counting}
+use Rattle.protocol.specs.Commands.{registerCommand, decoded, acts}
 use Rattle.ads1299.specs.Output.{emptied, ignored}
-use Rattle.ads1299.specs.Validity.{countable, validPhase, valid}
+use Rattle.protocol.specs.Transfers.{countable, validPhase, begun, remainder}
+use Rattle.protocol.proofs.Transfers.{Bounds, bounds}
+use Rattle.ads1299.specs.Validity.{valid}
 use Rattle.ads1299.specs.State.{withOutput, withPhase}
-use Rattle.ads1299.specs.Step.{commanded, begun, remainder, countedIn, counted, followedIn, followed, stepped}
+use Rattle.ads1299.specs.Step.{commanded, countedIn, counted, followedIn, followed, stepped}
 use Rattle.ads1299.specs.Deselect.{moved, deselected}
 use Rattle.ads1299.specs.Run.{after}
 use Rattle.ads1299.specs.Claims.{ReachesWaiting, IdleDeselect}
-use Rattle.ads1299.proofs.ValidState.{Parts, parts, whole, Bounds, bounds}
+use Rattle.ads1299.proofs.ValidState.{parts, whole}
 use Rattle.ads1299.proofs.StaysValid.{next-is, followed-valid}
 
 -- how many zero bytes are left to go

@@ -4,7 +4,7 @@ use mathlib.Core.Bool.{cond}
 use Rattle.refusal.specs.Numbers.{none, invalidState}
 use Rattle.ads1299.specs.declared.Converter.{Converter}
 use Rattle.ads1299.specs.declared.Moved.{Moved}
-use Rattle.ads1299.specs.declared.Phase.the-variants.{Waiting}
+use Rattle.protocol.specs.declared.Phase.the-variants.{Waiting}
 use Rattle.ads1299.specs.State.{withPhase}
 use Rattle.ads1299.specs.Output.{emptied}
 use Rattle.ads1299.specs.Validity.{valid}

@@ -1,9 +1,8 @@
 pub mod Owners
 pub mod Registers
 pub mod State
+pub mod Formed
 pub mod PowerUp
-pub mod Opcodes
-pub mod Commands
 pub mod Output
 pub mod Validity
 pub mod Step
@@ -11,3 +10,4 @@ pub mod Deselect
 pub mod Sample
 pub mod Run
 pub mod Claims
+pub mod Figures

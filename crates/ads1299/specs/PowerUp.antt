@@ -7,8 +7,8 @@ use lib.ListN.{replicate, set}
 use Rattle.refusal.specs.Numbers.{none, invalidState}
 use Rattle.registers.specs.Addresses.{ID, channelCount}
 use Rattle.ads1299.specs.declared.Converter.{Converter}
-use Rattle.ads1299.specs.declared.Output.the-variants.{Empty}
-use Rattle.ads1299.specs.declared.Phase.the-variants.{Waiting}
+use Rattle.protocol.specs.declared.Output.the-variants.{Empty}
+use Rattle.protocol.specs.declared.Phase.the-variants.{Waiting}
 use Rattle.ads1299.specs.declared.PoweredUp.{PoweredUp}
 use Rattle.ads1299.specs.Owners.{admin}
 use Rattle.ads1299.specs.Registers.{powerUp}

@@ -13,3 +13,8 @@ after s (b ∷ bs) = after (stepped s b .next) bs
 unfoldable pub outs : Converter → List ℕ → List ℕ
 outs s [] = []
 outs s (b ∷ bs) = stepped s b .out ∷ outs (stepped s b .next) bs
+
+-- gives the refusal numbers that they got
+unfoldable pub runRefusals : Converter → List ℕ → List ℕ
+runRefusals s [] = []
+runRefusals s (b ∷ bs) = stepped s b .refusal ∷ runRefusals (stepped s b .next) bs

@@ -12,7 +12,7 @@ use Rattle.frame.specs.Codes.{allInRange}
 use Rattle.frame.specs.Frame.{frameOf}
 use Rattle.ads1299.specs.declared.Converter.{Converter}
 use Rattle.ads1299.specs.declared.Moved.{Moved}
-use Rattle.ads1299.specs.declared.Output.the-variants.{At}
+use Rattle.protocol.specs.declared.Output.the-variants.{At}
 use Rattle.ads1299.specs.State.{withRegisters, withLatest, withOutput, withShifting}
 use Rattle.ads1299.specs.Validity.{valid}
 use Rattle.ads1299.specs.Deselect.{moved}

@@ -3,8 +3,8 @@ use Prim.Native.Nat.{ℕ}
 use mathlib.Core.Bool.{Bool}
 use mathlib.Core.List.{List}
 use Rattle.ads1299.specs.declared.Converter.{Converter}
-use Rattle.ads1299.specs.declared.Output.{Output}
-use Rattle.ads1299.specs.declared.Phase.{Phase}
+use Rattle.protocol.specs.declared.Output.{Output}
+use Rattle.protocol.specs.declared.Phase.{Phase}
 
 -- gives a state from all its parts
 abbrev pub state : List ℕ → List ℕ → List ℕ → Output → Bool → Bool → Bool → List ℕ → Phase → Converter

@@ -1,29 +1,27 @@
 -- The byte step (document 01, "The converter, byte by byte"): the byte that goes out, and the state after the byte that comes in.
-use Prim.Native.Nat.{ℕ, _+_, _-_}
+use Prim.Native.Nat.{ℕ}
 use mathlib.Core.Bool.{Bool, true, false, cond}
-use lib.Dec.{leb, ltb}
 use lib.ListN.{getD}
 use Rattle.refusal.specs.Numbers.{none, invalidState}
 use Rattle.registers.specs.Addresses.{ID}
 use Rattle.ads1299.specs.declared.Converter.{Converter}
-use Rattle.ads1299.specs.declared.Transfer.{Transfer}
+use Rattle.protocol.specs.declared.Transfer.{Transfer}
 use Rattle.ads1299.specs.declared.Stepped.{Stepped}
-use Rattle.ads1299.specs.declared.Direction.{Direction}
-use Rattle.ads1299.specs.declared.Direction.the-variants.{Read, Write}
-use Rattle.ads1299.specs.declared.Output.the-variants.{At}
-use Rattle.ads1299.specs.declared.Phase.{Phase}
-use Rattle.ads1299.specs.declared.Phase.the-variants.{Waiting, Held, Counting}
-use Rattle.ads1299.specs.declared.Command.{Command}
-use Rattle.ads1299.specs.declared.Command.the-variants.{Wakeup, Standby, Reset, Start, Stop, Rdatac, Sdatac, Rdata, Rreg, Wreg, Unlisted}
+use Rattle.protocol.specs.declared.Direction.{Direction}
+use Rattle.protocol.specs.declared.Direction.the-variants.{Read, Write}
+use Rattle.protocol.specs.declared.Output.the-variants.{At}
+use Rattle.protocol.specs.declared.Phase.{Phase}
+use Rattle.protocol.specs.declared.Phase.the-variants.{Waiting, Held, Counting}
+use Rattle.protocol.specs.declared.Command.{Command}
+use Rattle.protocol.specs.declared.Command.the-variants.{Wakeup, Standby, Reset, Start, Stop, Rdatac, Sdatac, Rdata, Rreg, Wreg, Unlisted}
 use Rattle.ads1299.specs.Registers.{registerAt, written}
 use Rattle.ads1299.specs.State.{withRegisters, withOutput, withContinuous, withStandby, withConverting, withShifting, withPhase}
 use Rattle.ads1299.specs.PowerUp.{restored}
-use Rattle.ads1299.specs.Commands.{decoded, acts}
-use Rattle.ads1299.specs.Output.{pending, emptied, ignored}
-use Rattle.ads1299.specs.Validity.{valid, lastAddress}
-
-abbrev pub transfer : Direction → ℕ → ℕ → Transfer
-transfer direction address remaining = record { direction = direction; address = address; remaining = remaining }
+use Rattle.protocol.specs.Commands.{decoded, acts}
+use Rattle.protocol.specs.Transfers.{transfer, begun, remainder}
+use Rattle.protocol.specs.Output.{pending}
+use Rattle.ads1299.specs.Output.{emptied, ignored}
+use Rattle.ads1299.specs.Validity.{valid}
 
 -- gives the state after the first byte of a transfer; its number of registers is not known yet
 abbrev pub held : Converter → Direction → ℕ → Converter
@@ -45,15 +43,7 @@ effect Unlisted s = s
 
 -- gives the state after a byte that comes while the converter waits
 unfoldable pub commanded : Converter → Command → Converter
-commanded s c = cond (acts s c) (effect c (emptied s)) (ignored s)
-
--- gives the state after the second byte of a transfer, the number of registers minus one: above 31 the command is dropped
-unfoldable pub begun : Converter → Transfer → ℕ → Converter
-begun s t b = withPhase s (cond (leb b lastAddress) (Counting (transfer (t .direction) (t .address) (b + 1))) Waiting)
-
--- gives where a transfer stands after one more of its registers
-unfoldable pub remainder : Transfer → Phase
-remainder t = cond (leb (t .remaining) 1) Waiting (Counting (transfer (t .direction) (t .address + 1) (t .remaining - 1)))
+commanded s c = cond (acts c (s .standby) (s .continuous) (s .converting)) (effect c (emptied s)) (ignored s)
 
 -- gives the state after a register's byte: a read changes nothing else, a write that register alone
 abbrev pub countedIn : Direction → Converter → Transfer → ℕ → Converter
@@ -79,7 +69,7 @@ outgoing s = outgoingIn (s .phase) s
 
 abbrev pub followedIn : Phase → Converter → ℕ → Converter
 followedIn Waiting s b = commanded s (decoded b)
-followedIn (Held t) s b = begun s t b
+followedIn (Held t) s b = withPhase s (begun t b)
 followedIn (Counting t) s b = counted s t b
 
 -- gives the state after a byte

@@ -2,9 +2,9 @@
 ghost use mathlib.Core.Path.{_≡_};
 ghost use Rattle.ads1299.specs.PowerUp.{validId, restored, poweredUp};
 use crate::Converter;
-use crate::Output;
-use crate::Phase;
 use crate::PoweredUp;
+use protocol::Output;
+use protocol::Phase;
 
 impl Converter {
     // The registers' power-up values; the ID's is given.

@@ -3,7 +3,7 @@ ghost use mathlib.Core.Path.{_≡_};
 ghost use Rattle.ads1299.specs.Sample.{running, complete, sampleRefusal, withStatus, framed, taken, sampled};
 use crate::Converter;
 use crate::Moved;
-use crate::Output;
+use protocol::Output;
 
 impl Converter {
     fn is_running(self) -> bool

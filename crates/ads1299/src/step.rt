@@ -1,21 +1,21 @@
 // The byte step and the select line.
 ghost use mathlib.Core.Path.{_≡_};
 ghost use mathlib.Core.Bool.{true};
+ghost use Rattle.protocol.specs.Transfers.{countable, remainder};
 ghost use Rattle.ads1299.specs.Registers.{registerAt, written};
-ghost use Rattle.ads1299.specs.Commands.{registerCommand, decoded, isWakeup, actsAwake, acts};
-ghost use Rattle.ads1299.specs.Output.{pending, advanced, emptied, ignored};
-ghost use Rattle.ads1299.specs.Validity.{valid, countable};
-ghost use Rattle.ads1299.specs.State.{withOutput, withPhase};
-ghost use Rattle.ads1299.specs.Step.{held, effect, commanded, begun, counted, remainder, outgoing, followed, stepped};
+ghost use Rattle.ads1299.specs.State.{withOutput, withPhase, withStandby, withConverting, withContinuous};
+ghost use Rattle.ads1299.specs.Output.{emptied, ignored};
+ghost use Rattle.ads1299.specs.Validity.{valid};
+ghost use Rattle.ads1299.specs.Step.{held, effect, commanded, counted, outgoing, followed, stepped};
 ghost use Rattle.ads1299.specs.Deselect.{deselected};
-use crate::Command;
 use crate::Converter;
-use crate::Direction;
 use crate::Moved;
-use crate::Output;
-use crate::Phase;
 use crate::Stepped;
-use crate::Transfer;
+use protocol::Command;
+use protocol::Direction;
+use protocol::Output;
+use protocol::Phase;
+use protocol::Transfer;
 
 impl Converter {
     // What stands at an address: 0 above the last register.
@@ -43,81 +43,6 @@ impl Converter {
         next
     }
 
-    fn decode_register_command(byte: u8) -> Command
-        ensures { λ r. ⌜ r ≡ registerCommand byte ⌝ }
-    {
-        if byte - byte % 32 == crate::RREG {
-            Command::Rreg(byte % 32)
-        } else if byte - byte % 32 == crate::WREG {
-            Command::Wreg(byte % 32)
-        } else {
-            Command::Unlisted
-        }
-    }
-
-    fn decode(byte: u8) -> Command
-        ensures { λ r. ⌜ r ≡ decoded byte ⌝ }
-    {
-        match byte {
-            crate::WAKEUP => Command::Wakeup,
-            crate::STANDBY => Command::Standby,
-            crate::RESET => Command::Reset,
-            crate::START => Command::Start,
-            crate::STOP => Command::Stop,
-            crate::RDATAC => Command::Rdatac,
-            crate::SDATAC => Command::Sdatac,
-            crate::RDATA => Command::Rdata,
-            _ => Self::decode_register_command(byte),
-        }
-    }
-
-    fn is_wakeup(command: Command) -> bool
-        ensures { λ r. ⌜ r ≡ isWakeup command ⌝ }
-    {
-        match command {
-            Command::Wakeup => true,
-            Command::Standby => false,
-            Command::Reset => false,
-            Command::Start => false,
-            Command::Stop => false,
-            Command::Rdatac => false,
-            Command::Sdatac => false,
-            Command::Rdata => false,
-            Command::Rreg(_) => false,
-            Command::Wreg(_) => false,
-            Command::Unlisted => false,
-        }
-    }
-
-    fn acts_awake(command: Command, continuous: bool, converting: bool) -> bool
-        ensures { λ r. ⌜ r ≡ actsAwake command continuous converting ⌝ }
-    {
-        match command {
-            Command::Wakeup => false,
-            Command::Standby => true,
-            Command::Reset => true,
-            Command::Start => !converting,
-            Command::Stop => converting,
-            Command::Rdatac => !continuous,
-            Command::Sdatac => continuous,
-            Command::Rdata => !continuous,
-            Command::Rreg(_) => !continuous,
-            Command::Wreg(_) => !continuous,
-            Command::Unlisted => false,
-        }
-    }
-
-    // Whether a command acts, or is ignored.
-    fn acts(self, command: Command) -> bool
-        ensures { λ r. ⌜ r ≡ acts self command ⌝ }
-    {
-        if self.standby {
-            Self::is_wakeup(command)
-        } else {
-            Self::acts_awake(command, self.continuous, self.converting)
-        }
-    }
-
     fn with_output(self, output: Output) -> Converter
         ensures { λ r. ⌜ r ≡ withOutput self output ⌝ }
     {
@@ -136,23 +61,6 @@ impl Converter {
         self.with_output(Output::Empty)
     }
 
-    fn advance(output: Output, again: bool) -> Output
-        ensures { λ r. ⌜ r ≡ advanced output again ⌝ }
-    {
-        match output {
-            Output::Empty => Output::Empty,
-            Output::At(place) => {
-                if place < 26 {
-                    Output::At(place + 1)
-                } else if again {
-                    Output::At(0)
-                } else {
-                    Output::Empty
-                }
-            }
-        }
-    }
-
     // An ignored byte lets the output run on.
     fn ignore(self) -> Converter
         ensures { λ r. ⌜ r ≡ ignored self ⌝ }
@@ -160,7 +68,7 @@ impl Converter {
         let output = self.output;
         let registers = self.registers;
         let again = bits::read(registers[registers::CONFIG1], 6, 1) == 1;
-        self.with_output(Self::advance(output, again))
+        self.with_output(protocol::advance(output, again))
     }
 
     fn hold(self, direction: Direction, address: u8) -> Converter
@@ -173,48 +81,56 @@ impl Converter {
         }))
     }
 
+    fn with_standby(self, standby: bool) -> Converter
+        ensures { λ r. ⌜ r ≡ withStandby self standby ⌝ }
+    {
+        Converter { standby, ..self }
+    }
+
+    fn with_converting(self, converting: bool) -> Converter
+        ensures { λ r. ⌜ r ≡ withConverting self converting ⌝ }
+    {
+        Converter { converting, ..self }
+    }
+
+    fn with_continuous(self, continuous: bool) -> Converter
+        ensures { λ r. ⌜ r ≡ withContinuous self continuous ⌝ }
+    {
+        Converter { continuous, ..self }
+    }
+
+    fn reset(self) -> Converter
+        ensures { λ r. ⌜ r ≡ effect Command.Reset self ⌝ }
+    {
+        let registers = self.registers;
+        let owners = self.owners;
+        Self::restore(registers[registers::ID], owners)
+    }
+
+    fn load(self) -> Converter
+        ensures { λ r. ⌜ r ≡ effect Command.Rdata self ⌝ }
+    {
+        let shifting = self.latest;
+        Converter {
+            shifting,
+            output: Output::At(0),
+            ..self
+        }
+    }
+
     // What a command that acts does, once the output is empty.
     fn perform(self, command: Command) -> Converter
         ensures { λ r. ⌜ r ≡ effect command self ⌝ }
     {
         match command {
-            Command::Wakeup => Converter {
-                standby: false,
-                ..self
-            },
-            Command::Standby => Converter {
-                standby: true,
-                ..self
-            },
-            Command::Reset => {
-                let registers = self.registers;
-                let owners = self.owners;
-                Self::restore(registers[registers::ID], owners)
-            }
-            Command::Start => Converter {
-                converting: true,
-                ..self
-            },
-            Command::Stop => Converter {
-                converting: false,
-                ..self
-            },
-            Command::Rdatac => Converter {
-                continuous: true,
-                ..self
-            },
-            Command::Sdatac => Converter {
-                continuous: false,
-                ..self
-            },
-            Command::Rdata => {
-                let shifting = self.latest;
-                Converter {
-                    shifting,
-                    output: Output::At(0),
-                    ..self
-                }
-            }
+            Command::Wakeup => self.with_standby(false),
+            Command::Standby => self.with_standby(true),
+            Command::Reset => self.reset(),
+            Command::Start => self.with_converting(true),
+            Command::Stop => self.with_converting(false),
+            Command::Rdatac => self.with_continuous(true),
+            Command::Sdatac => self.with_continuous(false),
+            Command::Rdata => self.load(),
             Command::Rreg(address) => self.hold(Direction::Read, address),
             Command::Wreg(address) => self.hold(Direction::Write, address),
             Command::Unlisted => self,
@@ -224,25 +140,10 @@ impl Converter {
     fn command(self, command: Command) -> Converter
         ensures { λ r. ⌜ r ≡ commanded self command ⌝ }
     {
-        if self.acts(command) {
+        if protocol::does_act(command, self.standby, self.continuous, self.converting) {
             self.empty().perform(command)
         } else {
             self.ignore()
-        }
-    }
-
-    fn begin(self, transfer: Transfer, byte: u8) -> Converter
-        ensures { λ r. ⌜ r ≡ begun self transfer byte ⌝ }
-    {
-        let direction = transfer.direction;
-        if byte <= 31 {
-            self.with_phase(Phase::Counting(Transfer {
-                direction,
-                address: transfer.address,
-                remaining: byte + 1,
-            }))
-        } else {
-            self.with_phase(Phase::Waiting)
         }
     }
 
@@ -278,35 +179,22 @@ impl Converter {
         }
     }
 
-    // The next output byte, or 0.
-    fn pending_byte(self) -> u8
-        ensures { λ r. ⌜ r ≡ pending (self .output) (self .shifting) ⌝ }
-    {
-        let output = self.output;
-        let shifting = self.shifting;
-        match output {
-            Output::Empty => 0,
-            Output::At(place) => {
-                let at = place as usize;
-                if at < 27 { shifting[at] } else { 0 }
-            }
-        }
-    }
-
     // The byte that goes out.
     fn outgoing_byte(self) -> u8
         ensures { λ r. ⌜ r ≡ outgoing self ⌝ }
     {
         let phase = self.phase;
+        let output = self.output;
+        let shifting = self.shifting;
         match phase {
-            Phase::Waiting => self.pending_byte(),
-            Phase::Held(_) => self.pending_byte(),
+            Phase::Waiting => protocol::pending_byte(output, shifting),
+            Phase::Held(_) => protocol::pending_byte(output, shifting),
             Phase::Counting(transfer) => {
                 let registers = self.registers;
                 let direction = transfer.direction;
                 match direction {
                     Direction::Read => Self::register(registers, transfer.address),
-                    Direction::Write => self.pending_byte(),
+                    Direction::Write => protocol::pending_byte(output, shifting),
                 }
             }
         }
@@ -318,8 +206,8 @@ impl Converter {
     {
         let phase = self.phase;
         match phase {
-            Phase::Waiting => self.command(Self::decode(byte)),
-            Phase::Held(transfer) => self.begin(transfer, byte),
+            Phase::Waiting => self.command(protocol::decode(byte)),
+            Phase::Held(transfer) => self.with_phase(protocol::begin(transfer, byte)),
             Phase::Counting(transfer) => self.count(transfer, byte),
         }
     }

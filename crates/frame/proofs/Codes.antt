@@ -1,7 +1,7 @@
 -- Laws of codes and their words: the round trips, and what 32-bit arithmetic gives.
 use Prim.Native.Nat.{ℕ, zero, suc, _-_, _%_, _<_, _≤_}
 use mathlib.Core.Path.{_≡_, refl, sym, _∙_}
-use mathlib.Core.Bool.{Bool, true, false, _&&_}
+use mathlib.Core.Bool.{Bool, true, false, _&&_, false≢true}
 use mathlib.Core.List.{List, [], _∷_}
 use native.Mathlib.Omega.{arith}
 use borrow.Author.Tests.{leb-true, le-leb, lt-ltb, le-ltb, ltb-true, ltb-false}
@@ -12,19 +12,8 @@ use lib.Signed.{mag, ltZ, nonNeg}
 use mir.Syntax.{w32}
 use mir.Val.{toZ, ofZ, SFits}
 use mir.Facts.{toZ-pos, toZ-ofZ}
+use Rattle.cases.proofs.Cases.{split, and-both}
 use Rattle.frame.specs.Codes.{wordCount, signWord, inRange, allInRange, wordOf, codeOf}
-
--- the two cases of a test
-pub split : {P : Type 0} (b : Bool) → (b ≡ true → P) → (b ≡ false → P) → P
-split true f g = f refl
-split false f g = g refl
-
-clash : {P : Type 0} → true ≡ false → P
-clash e = let z : _≡_ {A = ℕ} 0 1 = cc in absurd (omega arith)
-
-pub both : (b c : Bool) → b && c ≡ true → (b ≡ true) × (c ≡ true)
-both true c e = (refl, e)
-both false c e = clash (sym e)
 
 -- a word whose top bit is 1
 high : (w : ℕ) → w < wordCount → pos w -ℤ pos wordCount ≡ negsuc (wordCount - 1 - w)
@@ -42,7 +31,7 @@ code-word (pos n) r =
     let e : n % wordCount ≡ n = omega arith in
     simp (e, lt-ltb n signWord (omega arith))
 code-word (negsuc n) r =
-    let l = leb-true n (signWord - 1) (both _ _ r .0) in
+    let l = leb-true n (signWord - 1) (and-both _ _ r .0) in
     let w = wordCount - 1 - n % wordCount in
     let e : wordCount - 1 - w ≡ n = omega arith in
     simp (le-ltb w signWord (omega arith), high w (omega arith), e)
@@ -64,8 +53,8 @@ code-range w h =
 pub all-at : (zs : List ℤ) → allInRange zs ≡ true → (k : ℕ) → inRange (getD zs k (pos 0)) ≡ true
 unfolding allInRange inRange
 all-at [] e k = refl
-all-at (z ∷ zs) e zero = both (inRange z) (allInRange zs) e .0
-all-at (z ∷ zs) e (suc k) = all-at zs (both (inRange z) (allInRange zs) e .1) k
+all-at (z ∷ zs) e zero = and-both (inRange z) (allInRange zs) e .0
+all-at (z ∷ zs) e (suc k) = all-at zs (and-both (inRange z) (allInRange zs) e .1) k
 
 -- the code of a word in 32-bit arithmetic
 pub low-code : (w : ℕ) → w < signWord → toZ w32 w ≡ codeOf w
@@ -97,4 +86,4 @@ pub record NonNegative (z : ℤ) : Type 0 where
 pub nonNegative : (z : ℤ) → ltZ z (pos 0) ≡ false → NonNegative z
 unfolding wordOf
 nonNegative (pos n) t = record { sign = tt; same = refl; worded = refl }
-nonNegative (negsuc n) t = clash t
+nonNegative (negsuc n) t = absurd (false≢true (sym t))

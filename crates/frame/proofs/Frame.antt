@@ -13,12 +13,18 @@ use Rattle.frame.specs.Codes.{wordCount, inRange, allInRange, wordOf}
 use Rattle.frame.specs.Words.{word, wordBytes, wordAt}
 use Rattle.frame.specs.Frame.{frameLength, frameMark, statusWord, poweredDown, shown, frameWord, frameOf}
 use Rattle.frame.specs.Reading.{leadingBits, channelBytes, statusP, statusN}
-use Rattle.frame.proofs.Codes.{split, word-lt, all-at}
+use Rattle.frame.proofs.Codes.{word-lt, all-at}
+use Rattle.cases.proofs.Cases.{split}
 use Rattle.frame.proofs.Words.{three-bytes, length-joined, joined-lt, word-joined}
 use Rattle.frame.proofs.Reading.{channel-word}
 
+pub shown-range : (registers : List ℕ) (codes : List ℤ) → allInRange codes ≡ true → (channel : ℕ) → inRange (shown registers codes channel) ≡ true
+unfolding shown inRange
+shown-range registers codes r channel =
+    split (poweredDown registers channel) (λ t. simp t) (λ t. simp t (all-at codes r (channel - 1)))
+
 module _ (registers : List ℕ) (codes : List ℤ) (p n : ℕ) where
-  abbrev pub frame : List ℕ
+  abbrev frame : List ℕ
   frame = frameOf registers codes p n
 
   pub frame-length : length frame ≡ frameLength
@@ -38,11 +44,6 @@ module _ (registers : List ℕ) (codes : List ℤ) (p n : ℕ) where
   channel-shown channel low high =
       let l = word-lt (shown registers codes channel) in
       frame-word channel high ∙ simp (ne-eqb channel 0 (λ e. omega arith)) (omega arith)
-
-  pub shown-range : allInRange codes ≡ true → (channel : ℕ) → inRange (shown registers codes channel) ≡ true
-  unfolding shown inRange
-  shown-range r channel =
-      split (poweredDown registers channel) (λ t. simp t) (λ t. simp t (all-at codes r (channel - 1)))
 
   pub frame-part : (channel : ℕ) → channel ≤ channelCount → wordBytes (wordAt frame channel) ≡ channelBytes frame channel
   unfolding channelBytes

@@ -12,7 +12,7 @@ use lib.ListN.{length, take, drop, getD, length-append, List·getD-append}
 use lib.Seq.{sets, sets-eq, take-at, length-take-le, getD-append-add}
 use Rattle.frame.specs.Codes.{wordCount}
 use Rattle.frame.specs.Words.{bit, word, wordBytes, wordAt, joined}
-use Rattle.frame.proofs.Codes.{split}
+use Rattle.cases.proofs.Cases.{split}
 
 pub word-small : (high middle low : ℕ) → high < 256 → middle < 256 → low < 256 → word high middle low < wordCount
 unfolding word

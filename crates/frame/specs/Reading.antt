@@ -42,7 +42,7 @@ leadOffP frame channel = bit (statusP frame) (channel - 1)
 unfoldable pub leadOffN : List ℕ → ℕ → Bool
 leadOffN frame channel = bit (statusN frame) (channel - 1)
 
--- bytes that agree in number and first four bits are both a frame or neither, and those that agree in a channel's three bytes give it one code
-pub record ReadsOnly (first second : List ℕ) (channel : ℕ) : Type 0 where
+-- bytes that agree in number and first four bits are both a frame or neither, and bytes that agree in a channel's three give it the same code
+pub record LocalReading (first second : List ℕ) (channel : ℕ) : Type 0 where
   pub framed : length first ≡ length second → leadingBits first ≡ leadingBits second → isFrame first ≡ isFrame second
   pub coded : channelBytes first channel ≡ channelBytes second channel → codeAt first channel ≡ codeAt second channel

@@ -18,20 +18,27 @@ pub record Codec : Type 0 where
   pub code-word : (z : ℤ) → inRange z ≡ true → codeOf (wordOf z) ≡ z
   pub word-code : (w : ℕ) → w < wordCount → wordOf (codeOf w) ≡ w
   pub word-bytes : (w : ℕ) → w < wordCount → wordAt (wordBytes w) 0 ≡ w
-  pub bytes-word : (high middle low : ℕ) → high < 256 → middle < 256 → low < 256 → wordBytes (word high middle low) ≡ high ∷ middle ∷ low ∷ []
+  pub bytes-word : (high middle low : ℕ) → high < 256 → middle < 256 → low < 256
+      → wordBytes (word high middle low) ≡ high ∷ middle ∷ low ∷ []
   pub code-bytes : (z : ℤ) → inRange z ≡ true → codeOf (wordAt (wordBytes (wordOf z)) 0) ≡ z
-  pub bytes-code : (high middle low : ℕ) → high < 256 → middle < 256 → low < 256 → wordBytes (wordOf (codeOf (word high middle low))) ≡ high ∷ middle ∷ low ∷ []
+  pub bytes-code : (high middle low : ℕ) → high < 256 → middle < 256 → low < 256
+      → wordBytes (wordOf (codeOf (word high middle low))) ≡ high ∷ middle ∷ low ∷ []
 
 -- a frame says of each channel what went in: its code, or 0 where it is powered down, and its bits of P and N
 pub record ReadsBack (registers : List ℕ) (codes : List ℤ) (p n : ℕ) (frame : List ℕ) : Type 0 where
   pub whole : length frame ≡ frameLength
   pub bytes : (i : ℕ) → getD frame i 0 < 256
   pub framed : isFrame frame ≡ true
-  pub coded : (channel : ℕ) → 0 < channel → channel ≤ channelCount → codeAt frame channel ≡ shown registers codes channel
-  pub parted : (channel : ℕ) → 0 < channel → channel ≤ channelCount → channelBytes frame channel ≡ wordBytes (wordOf (shown registers codes channel))
+  pub coded : (channel : ℕ) → 0 < channel → channel ≤ channelCount
+      → codeAt frame channel ≡ shown registers codes channel
+  pub parted : (channel : ℕ) → 0 < channel → channel ≤ channelCount
+      → channelBytes frame channel ≡ wordBytes (wordOf (shown registers codes channel))
   pub p-bit : (channel : ℕ) → leadOffP frame channel ≡ bit p (channel - 1)
   pub n-bit : (channel : ℕ) → leadOffN frame channel ≡ bit n (channel - 1)
 
 -- every frame that is built from bytes and codes in range reads back
 abbrev pub FramesReadBack : Type 0
-FramesReadBack = (registers : List ℕ) (codes : List ℤ) (p n : ℕ) → getD registers GPIO 0 < 256 → allInRange codes ≡ true → p < 256 → n < 256 → ReadsBack registers codes p n (frameOf registers codes p n)
+FramesReadBack =
+    (registers : List ℕ) (codes : List ℤ) (p n : ℕ)
+    → getD registers GPIO 0 < 256 → allInRange codes ≡ true → p < 256 → n < 256
+    → ReadsBack registers codes p n (frameOf registers codes p n)

@@ -25,6 +25,7 @@ const WORD_COUNT: u32 = 0x1000000;
 // The first word whose top bit is 1.
 const SIGN_WORD: u32 = 0x800000;
 
+// Whether a number is a code.
 pub fn in_range(code: i32) -> bool
     ensures { λ r. ⌜ r ≡ inRange code ⌝ }
 {
@@ -35,6 +36,7 @@ pub fn in_range(code: i32) -> bool
     }
 }
 
+// Whether every number of a list is a code.
 pub fn all_in_range(codes: &[i32]) -> bool
     ensures { λ r. ⌜ r ≡ allInRange (now (codes .entry)) ⌝ }
 {
@@ -68,6 +70,7 @@ pub fn code_bytes(code: i32) -> [u8; 3]
     word_bytes(word_of(code))
 }
 
+// The low 24 bits of an integer in two's complement. `-1 - code` has the bits of `code` flipped.
 fn word_of(code: i32) -> u32
     ensures { λ r. ⌜ r ≡ wordOf code ⌝ }
 {
@@ -78,12 +81,14 @@ fn word_of(code: i32) -> u32
     }
 }
 
+// The word of three bytes, high byte first.
 fn word(high: u8, middle: u8, low: u8) -> u32
     ensures { λ r. ⌜ r ≡ word high middle low ⌝ }
 {
     (high as u32) * 0x10000 + (middle as u32) * 0x100 + (low as u32)
 }
 
+// The three bytes of a word, high byte first.
 fn word_bytes(word: u32) -> [u8; 3]
     ensures { λ r. ⌜ r ≡ wordBytes word ⌝ }
 {
@@ -105,13 +110,14 @@ fn bit(byte: u8, place: u32) -> bool
     }
 }
 
+// The first word of a frame: the mark, P, N and bits 7:4 of GPIO.
 fn status_word(p: u8, n: u8, gpio: u8) -> u32
     ensures { λ r. ⌜ r ≡ statusWord p n gpio ⌝ }
 {
     (MARK as u32) * 0x100000 + (p as u32) * 0x1000 + (n as u32) * 0x10 + (gpio as u32) / 0x10
 }
 
-// The code that a channel shows.
+// What a channel shows: 0 where its power-down bit, bit 7 of CHnSET, is 1.
 fn shown(registers: [u8; registers::COUNT], codes: &[i32], channel: usize) -> i32
     requires { ⌜ (0 < channel) × (channel ≤ channelCount) ⌝ }
     ensures { λ r. ⌜ r ≡ shown registers (now (codes .entry)) channel ⌝ }
@@ -171,6 +177,7 @@ fn byte_at(frame: &[u8], at: usize) -> u8
     if at < frame.len() { frame[at] } else { 0 }
 }
 
+// Whether bytes are a frame, by their number and the first four bits.
 pub fn is_frame(frame: &[u8]) -> bool
     ensures { λ r. ⌜ r ≡ isFrame (now (frame .entry)) ⌝ }
 {
@@ -200,7 +207,7 @@ fn status(frame: &[u8]) -> u32
     word(byte_at(frame, 0), byte_at(frame, 1), byte_at(frame, 2))
 }
 
-// A channel's bit of P or N; channel 0 counts as 1.
+// A channel's bit of P or N. Channel 0 counts as 1, and a channel above 8 has none.
 fn channel_bit(byte: u8, channel: u32) -> bool
     ensures { λ r. ⌜ r ≡ bit byte (channel - 1) ⌝ }
 {
@@ -211,12 +218,14 @@ fn channel_bit(byte: u8, channel: u32) -> bool
     }
 }
 
+// A channel's lead-off bit of P.
 pub fn lead_off_p(frame: &[u8], channel: u32) -> bool
     ensures { λ r. ⌜ r ≡ leadOffP (now (frame .entry)) channel ⌝ }
 {
     channel_bit((status(frame) / 0x1000 % 0x100) as u8, channel)
 }
 
+// A channel's lead-off bit of N.
 pub fn lead_off_n(frame: &[u8], channel: u32) -> bool
     ensures { λ r. ⌜ r ≡ leadOffN (now (frame .entry)) channel ⌝ }
 {

@@ -12,5 +12,5 @@ command-spec =
     (λ c κs. search needs)
     (λ c κs. search needs)
     (λ c κs. search needs)
-    (λ c. simp (← c .before .before .before .acts .ensures, c .before .before .if1 .taken, ← c .before .empty .ensures, ← c .perform .ensures))
-    (λ c. simp (← c .before .before .acts .ensures, c .before .if1 .left, ← c .ignore .ensures)))
+    (λ c. simp (← c .before .before .before .does-act .ensures, c .before .before .if1 .taken, ← c .before .empty .ensures, ← c .perform .ensures))
+    (λ c. simp (← c .before .before .does-act .ensures, c .before .if1 .left, ← c .ignore .ensures)))

@@ -1,7 +1,7 @@
-use Rattle.ads1299.proofs.ValidState.{bounds}
+use Rattle.protocol.proofs.Transfers.{bounds}
 use Rattle.ads1299.proofs.Converter.remain.Statement.{statement}
 use Rattle.ads1299.proofs.Converter.remain.Tie as tie
-use Rattle.ads1299.specs.Step.{remainder}
+use Rattle.protocol.specs.Transfers.{remainder}
 use borrow.Author.Needs.{needs}
 use borrow.Author.Tests.{le-leb, lt-leb}
 use native.Mathlib.Omega.{arith}

@@ -1,0 +1,77 @@
+-- What an accepted grant and an accepted reading have. Assumes nothing.
+use Prim.Native.Nat.{ℕ, _≤_}
+use mathlib.Core.Path.{_≡_, refl}
+use mathlib.Core.Bool.{true}
+use mathlib.Core.List.{List}
+use borrow.Author.Tests.{leb-true, eqb-true, not-false}
+use lib.Dec.{leb, eqb}
+use lib.ListN.{length}
+use Rattle.cases.proofs.Cases.{and-both}
+use Rattle.refusal.specs.Numbers.{none}
+use Rattle.refusal.proofs.First.{exact}
+use Rattle.registers.specs.Addresses.{channelCount}
+use Rattle.frame.specs.Frame.{frameLength, frameMark}
+use Rattle.frame.specs.Reading.{leadingBits, isFrame}
+use Rattle.ads1299.specs.declared.Converter.{Converter}
+use Rattle.ads1299.specs.Owners.{largestParty}
+use Rattle.ads1299.specs.Validity.{valid}
+use Rattle.access.specs.Parties.{knownParty, isAdmin, owns}
+use Rattle.access.specs.Channels.{isChannel}
+use Rattle.access.specs.Grant.{grantRefusals, grantRefusal}
+use Rattle.access.specs.Reading.{readingRefusals, readingRefusal}
+
+pub record Bounds (channel : ℕ) : Type 0 where
+  pub low : 1 ≤ channel
+  pub high : channel ≤ channelCount
+
+pub bounds : (channel : ℕ) → isChannel channel ≡ true → Bounds channel
+unfolding isChannel
+bounds channel e =
+    let b = and-both (leb 1 channel) (leb channel channelCount) e in
+    record { low = leb-true _ _ (b .0); high = leb-true _ _ (b .1) }
+
+pub party-bound : (party : ℕ) → knownParty party ≡ true → party ≤ largestParty
+unfolding knownParty
+party-bound party e = leb-true _ _ e
+
+pub frame-whole : (frame : List ℕ) → isFrame frame ≡ true → length frame ≡ frameLength
+unfolding isFrame
+frame-whole frame e = eqb-true _ _ (and-both (eqb (length frame) frameLength) (eqb (leadingBits frame) frameMark) e .0)
+
+pub record Grantable (s : Converter) (caller receiver channel : ℕ) : Type 0 where
+  pub state : valid s ≡ true
+  pub caller-known : knownParty caller ≡ true
+  pub receiver-known : knownParty receiver ≡ true
+  pub channel-known : isChannel channel ≡ true
+  pub by-admin : isAdmin caller ≡ true
+
+pub grantable : (s : Converter) (caller receiver channel : ℕ) → grantRefusal s caller receiver channel ≡ none → Grantable s caller receiver channel
+unfolding grantRefusal
+grantable s caller receiver channel e =
+    let off = exact (grantRefusals s caller receiver channel) refl .refuses e in
+    record {
+      state = not-false _ (off .0);
+      caller-known = not-false _ (off .1 .0);
+      receiver-known = not-false _ (off .1 .1 .0);
+      channel-known = not-false _ (off .1 .1 .1 .0);
+      by-admin = not-false _ (off .1 .1 .1 .1 .0);
+    }
+
+pub record Readable (s : Converter) (party channel : ℕ) (frame : List ℕ) : Type 0 where
+  pub state : valid s ≡ true
+  pub party-known : knownParty party ≡ true
+  pub channel-known : isChannel channel ≡ true
+  pub owned : owns (s .owners) party channel ≡ true
+  pub framed : isFrame frame ≡ true
+
+pub readable : (s : Converter) (party channel : ℕ) (frame : List ℕ) → readingRefusal s party channel frame ≡ none → Readable s party channel frame
+unfolding readingRefusal
+readable s party channel frame e =
+    let off = exact (readingRefusals s party channel frame) refl .refuses e in
+    record {
+      state = not-false _ (off .0);
+      party-known = not-false _ (off .1 .0);
+      channel-known = not-false _ (off .1 .1 .0);
+      owned = not-false _ (off .1 .1 .1 .0);
+      framed = not-false _ (off .1 .1 .1 .1 .0);
+    }

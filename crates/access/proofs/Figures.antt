@@ -1,0 +1,17 @@
+-- The figures hold by computation.
+use mathlib.Core.Path.{refl}
+use Rattle.frame.specs.Codes.{codeOf}
+use Rattle.frame.specs.Words.{word, bit, wordAt}
+use Rattle.frame.specs.Reading.{leadingBits, isFrame, channelBytes, codeAt, statusP, statusN, leadOffP, leadOffN}
+use Rattle.ads1299.specs.Registers.{powerUp}
+use Rattle.ads1299.specs.PowerUp.{validId, restored, poweredUp}
+use Rattle.ads1299.specs.Validity.{validConverter, valid}
+use Rattle.access.specs.Parties.{knownParty, isAdmin, ownerOf, owns}
+use Rattle.access.specs.Channels.{isChannel}
+use Rattle.access.specs.Grant.{grantRefusal, reassigned, granted}
+use Rattle.access.specs.Reading.{readingRefusal, channelReading, partBytes}
+use Rattle.access.specs.Figures.{FiguresHold}
+
+pub figures-hold : FiguresHold
+unfolding codeOf word bit wordAt leadingBits isFrame channelBytes codeAt statusP statusN leadOffP leadOffN powerUp validId restored poweredUp validConverter valid knownParty isAdmin ownerOf owns isChannel grantRefusal reassigned granted readingRefusal channelReading partBytes
+figures-hold = refl

@@ -1,0 +1,6 @@
+pub mod Accepted
+pub mod Refusals
+pub mod EqualReadings
+pub mod OneOwner
+pub mod Samples
+pub mod Figures

@@ -1,0 +1,90 @@
+-- What is claimed of grants and readings beyond the functions' contracts.
+use Prim.Native.Nat.{ℕ, _-_, _<_}
+use mathlib.Core.Path.{_≡_}
+use mathlib.Core.Bool.{Bool, true, cond}
+use mathlib.Core.List.{List}
+use lib.Dec.{eqb}
+use lib.IntN.{ℤ}
+use lib.ListN.{length, getD}
+use Rattle.refusal.specs.Numbers.{none}
+use Rattle.refusal.specs.First.{firstOf, accepted, Exact}
+use Rattle.registers.specs.Addresses.{channelCount}
+use Rattle.frame.specs.Codes.{wordOf}
+use Rattle.frame.specs.Words.{bit, wordBytes}
+use Rattle.frame.specs.Frame.{shown}
+use Rattle.frame.specs.Reading.{leadingBits, channelBytes, leadOffP, leadOffN}
+use Rattle.ads1299.specs.declared.Converter.{Converter}
+use Rattle.ads1299.specs.declared.Moved.{Moved}
+use Rattle.ads1299.specs.State.{withOwners}
+use Rattle.ads1299.specs.Validity.{valid}
+use Rattle.ads1299.specs.Sample.{sampled}
+use Rattle.access.specs.Parties.{ownerOf}
+use Rattle.access.specs.Channels.{isChannel}
+use Rattle.access.specs.Grant.{grantRefusals, granted}
+use Rattle.access.specs.Reading.{readingRefusals, reading, channelReading, partBytes, partPlace}
+
+-- two states pass 13 with the same owners, and two lists of bytes agree in length, in the first four bits, in a channel's bytes and in its two lead-off bits
+pub record Alike (s t : Converter) (channel : ℕ) (first second : List ℕ) : Type 0 where
+  pub s-valid : valid s ≡ true
+  pub t-valid : valid t ≡ true
+  pub owners : s .owners ≡ t .owners
+  pub lengths : length first ≡ length second
+  pub marks : leadingBits first ≡ leadingBits second
+  pub bytes : channelBytes first channel ≡ channelBytes second channel
+  pub p-bits : leadOffP first channel ≡ leadOffP second channel
+  pub n-bits : leadOffN first channel ≡ leadOffN second channel
+
+-- Whatever else the states and the bytes hold, a party's readings of a channel are equal, and so are the parts: nothing of another channel shows, refused or not.
+pub record EqualReadings (s t : Converter) (party channel : ℕ) (first second : List ℕ) : Type 0 where
+  pub readings : Alike s t channel first second → channelReading s party channel first ≡ channelReading t party channel second
+  pub parts : Alike s t channel first second → partBytes s party channel first ≡ partBytes t party channel second
+  pub places : Alike s t channel first second → partPlace s party channel first ≡ partPlace t party channel second
+
+-- From a state that passes 13, every grant leads to one that passes it.
+abbrev pub GrantKeepsValid : Type 0
+GrantKeepsValid =
+    (s : Converter) (caller receiver channel : ℕ)
+    → valid s ≡ true
+    → valid (granted s caller receiver channel .next) ≡ true
+
+-- accepted, the channel is the receiver's and every other one has the owner that it had; refused, the state is as given; all but the owners stays in any case
+pub record OneOwnerMoves (s : Converter) (receiver channel : ℕ) (answer : Moved) : Type 0 where
+  pub moved : answer .refusal ≡ none → (other : ℕ) → isChannel other ≡ true
+      → ownerOf (answer .next .owners) other ≡ cond (eqb other channel) receiver (ownerOf (s .owners) other)
+  pub kept : (answer .refusal ≡ none → ⊥) → answer .next ≡ s
+  pub rest : answer .next ≡ withOwners s (answer .next .owners)
+
+-- A grant changes one owner entry and nothing else.
+abbrev pub GrantMovesOneOwner : Type 0
+GrantMovesOneOwner =
+    (s : Converter) (caller receiver channel : ℕ)
+    → length (s .owners) ≡ channelCount
+    → OneOwnerMoves s receiver channel (granted s caller receiver channel)
+
+-- an answer's number is that of the first refusal that applies, and so 0 exactly when none does
+pub record Judged (tests : List (Bool × ℕ)) (number : ℕ) : Type 0 where
+  pub first : number ≡ firstOf tests
+  pub exact : Exact tests
+
+-- Grants and readings are refused exactly as their lists say; and the second call gives three bytes exactly when the first one accepts, else none.
+pub record ExactRefusals : Type 0 where
+  pub grants : (s : Converter) (caller receiver channel : ℕ)
+      → Judged (grantRefusals s caller receiver channel) (granted s caller receiver channel .refusal)
+  pub readings : (s : Converter) (party channel : ℕ) (frame : List ℕ)
+      → Judged (readingRefusals s party channel frame) (channelReading s party channel frame .refusal)
+  pub parts : (s : Converter) (party channel : ℕ) (frame : List ℕ)
+      → length (partBytes s party channel frame) ≡ cond (accepted (channelReading s party channel frame .refusal)) 3 0
+
+-- a party reads from the latest frame what was sampled: the channel's code, or 0 where it is powered down, and its bits of P and N
+pub record ReadsSample (registers : List ℕ) (codes : List ℤ) (p n party channel : ℕ) (next : Converter) : Type 0 where
+  pub read : channelReading next party channel (next .latest)
+      ≡ reading none (shown registers codes channel) (bit p (channel - 1)) (bit n (channel - 1))
+  pub part : partBytes next party channel (next .latest) ≡ wordBytes (wordOf (shown registers codes channel))
+
+-- After every sample that is taken, each channel's owner reads what was sampled.
+abbrev pub SamplesReadBack : Type 0
+SamplesReadBack =
+    (s : Converter) (codes : List ℤ) (p n channel : ℕ)
+    → ((i : ℕ) → getD (s .registers) i 0 < 256) → p < 256 → n < 256
+    → sampled s codes p n .refusal ≡ none → isChannel channel ≡ true
+    → ReadsSample (s .registers) codes p n (ownerOf (s .owners) channel) channel (sampled s codes p n .next)

@@ -1,0 +1,11 @@
+use Rattle.ads1299.proofs.Converter.load.Statement.{statement}
+use Rattle.ads1299.proofs.Converter.load.Tie as tie
+use Rattle.ads1299.specs.Step.{effect}
+use mathlib.Core.Path.{refl}
+
+pub load-spec : {M : Type 1} → statement M
+unfolding effect
+load-spec =
+    tie.close
+    (tie.spec
+    (λ c. refl))

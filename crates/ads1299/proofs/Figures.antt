@@ -1,0 +1,16 @@
+-- The runs of bytes come out as worked by hand, by computation. Assumes nothing.
+use mathlib.Core.Path.{refl}
+use Rattle.bits.specs.Fields.{field, masked}
+use Rattle.protocol.specs.Commands.{registerCommand, decoded, acts}
+use Rattle.protocol.specs.Transfers.{begun, remainder, countable}
+use Rattle.ads1299.specs.Registers.{powerUp, masks, registerAt, written}
+use Rattle.ads1299.specs.PowerUp.{validId, restored, poweredUp}
+use Rattle.ads1299.specs.Output.{emptied, ignored}
+use Rattle.ads1299.specs.Validity.{validConverter, valid}
+use Rattle.ads1299.specs.Step.{effect, commanded, counted, outgoing, followed, stepped}
+use Rattle.ads1299.specs.Run.{outs}
+use Rattle.ads1299.specs.Figures.{runs, RunsHold}
+
+pub runs-hold : RunsHold
+unfolding field masked registerCommand decoded acts begun remainder countable powerUp masks registerAt written validId restored poweredUp emptied ignored validConverter valid effect commanded counted outgoing followed stepped outs runs
+runs-hold = refl

@@ -1,0 +1,5 @@
+pub mod Numbers
+pub mod Encoding
+pub mod Decoding
+pub mod RoundTrip
+pub mod Figures

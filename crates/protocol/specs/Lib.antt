@@ -1,0 +1,4 @@
+pub mod Opcodes
+pub mod Commands
+pub mod Transfers
+pub mod Output

@@ -1,0 +1,236 @@
+// The serial interface of the ADS1299: its commands, register transfers, and the frame that is shifted out.
+ghost use mathlib.Core.Path.{_≡_};
+ghost use Rattle.protocol.specs.Commands.{registerCommand, decoded, isWakeup, actsAwake, acts};
+ghost use Rattle.protocol.specs.Transfers.{countable, validPhase, begun};
+ghost use Rattle.protocol.specs.Output.{pending, advanced, validPlace};
+
+// The commands, by their data sheet names. RREG and WREG carry the first address in their low five bits.
+pub const WAKEUP: u8 = 0x02;
+
+pub const STANDBY: u8 = 0x04;
+
+pub const RESET: u8 = 0x06;
+
+pub const START: u8 = 0x08;
+
+pub const STOP: u8 = 0x0A;
+
+pub const RDATAC: u8 = 0x10;
+
+pub const SDATAC: u8 = 0x11;
+
+pub const RDATA: u8 = 0x12;
+
+pub const RREG: u8 = 0x20;
+
+pub const WREG: u8 = 0x40;
+
+// What a byte means while the converter waits.
+pub enum Command {
+    Wakeup,
+    Standby,
+    Reset,
+    Start,
+    Stop,
+    Rdatac,
+    Sdatac,
+    Rdata,
+    Rreg(u8),
+    Wreg(u8),
+    Unlisted,
+}
+
+pub enum Direction {
+    Read,
+    Write,
+}
+
+// A register read or write: the next address, and how many registers are left (0 until the second byte has come).
+pub struct Transfer {
+    pub direction: Direction,
+    pub address: u8,
+    pub remaining: u8,
+}
+
+// Where the converter stands in a command.
+pub enum Phase {
+    Waiting,
+    // The first byte of a register read or write has come.
+    Held(Transfer),
+    // Its second byte has come too.
+    Counting(Transfer),
+}
+
+// What is being shifted out: nothing, or the frame from a place on.
+pub enum Output {
+    Empty,
+    At(u8),
+}
+
+fn decode_register_command(byte: u8) -> Command
+    ensures { λ r. ⌜ r ≡ registerCommand byte ⌝ }
+{
+    if byte - byte % 32 == RREG {
+        Command::Rreg(byte % 32)
+    } else if byte - byte % 32 == WREG {
+        Command::Wreg(byte % 32)
+    } else {
+        Command::Unlisted
+    }
+}
+
+// What a byte means while the converter waits.
+pub fn decode(byte: u8) -> Command
+    ensures { λ r. ⌜ r ≡ decoded byte ⌝ }
+{
+    match byte {
+        WAKEUP => Command::Wakeup,
+        STANDBY => Command::Standby,
+        RESET => Command::Reset,
+        START => Command::Start,
+        STOP => Command::Stop,
+        RDATAC => Command::Rdatac,
+        SDATAC => Command::Sdatac,
+        RDATA => Command::Rdata,
+        _ => decode_register_command(byte),
+    }
+}
+
+fn is_wakeup(command: Command) -> bool
+    ensures { λ r. ⌜ r ≡ isWakeup command ⌝ }
+{
+    match command {
+        Command::Wakeup => true,
+        Command::Standby => false,
+        Command::Reset => false,
+        Command::Start => false,
+        Command::Stop => false,
+        Command::Rdatac => false,
+        Command::Sdatac => false,
+        Command::Rdata => false,
+        Command::Rreg(_) => false,
+        Command::Wreg(_) => false,
+        Command::Unlisted => false,
+    }
+}
+
+fn acts_awake(command: Command, continuous: bool, converting: bool) -> bool
+    ensures { λ r. ⌜ r ≡ actsAwake command continuous converting ⌝ }
+{
+    match command {
+        Command::Wakeup => false,
+        Command::Standby => true,
+        Command::Reset => true,
+        Command::Start => !converting,
+        Command::Stop => converting,
+        Command::Rdatac => !continuous,
+        Command::Sdatac => continuous,
+        Command::Rdata => !continuous,
+        Command::Rreg(_) => !continuous,
+        Command::Wreg(_) => !continuous,
+        Command::Unlisted => false,
+    }
+}
+
+// Whether a command acts, or is ignored.
+pub fn does_act(command: Command, standby: bool, continuous: bool, converting: bool) -> bool
+    ensures { λ r. ⌜ r ≡ acts command standby continuous converting ⌝ }
+{
+    if standby {
+        is_wakeup(command)
+    } else {
+        acts_awake(command, continuous, converting)
+    }
+}
+
+fn is_countable(transfer: Transfer) -> bool
+    ensures { λ r. ⌜ r ≡ countable transfer ⌝ }
+{
+    if transfer.remaining == 0 {
+        return false;
+    }
+    if 32 < transfer.remaining {
+        return false;
+    }
+    transfer.address <= 63 - transfer.remaining
+}
+
+// Whether a converter can stand so in a command, given whether one may stand half given.
+pub fn is_valid_phase(phase: Phase, interruptible: bool) -> bool
+    ensures { λ r. ⌜ r ≡ validPhase phase interruptible ⌝ }
+{
+    match phase {
+        Phase::Waiting => true,
+        Phase::Held(transfer) => {
+            if interruptible {
+                transfer.address <= 31
+            } else {
+                false
+            }
+        }
+        Phase::Counting(transfer) => {
+            if interruptible {
+                is_countable(transfer)
+            } else {
+                false
+            }
+        }
+    }
+}
+
+// Where a transfer stands after its second byte, the number of registers minus one.
+pub fn begin(transfer: Transfer, byte: u8) -> Phase
+    ensures { λ r. ⌜ r ≡ begun transfer byte ⌝ }
+{
+    let direction = transfer.direction;
+    if byte <= 31 {
+        Phase::Counting(Transfer {
+            direction,
+            address: transfer.address,
+            remaining: byte + 1,
+        })
+    } else {
+        Phase::Waiting
+    }
+}
+
+// Whether the output's place, where it has one, is in the frame.
+pub fn is_valid_place(output: Output) -> bool
+    ensures { λ r. ⌜ r ≡ validPlace output ⌝ }
+{
+    match output {
+        Output::Empty => true,
+        Output::At(place) => place <= 26,
+    }
+}
+
+// The next output byte, or 0.
+pub fn pending_byte(output: Output, frame: [u8; 27]) -> u8
+    ensures { λ r. ⌜ r ≡ pending output frame ⌝ }
+{
+    match output {
+        Output::Empty => 0,
+        Output::At(place) => {
+            let at = place as usize;
+            if at < 27 { frame[at] } else { 0 }
+        }
+    }
+}
+
+// The output after its next byte: past the last byte it starts over or is empty.
+pub fn advance(output: Output, again: bool) -> Output
+    ensures { λ r. ⌜ r ≡ advanced output again ⌝ }
+{
+    match output {
+        Output::Empty => Output::Empty,
+        Output::At(place) => {
+            if place < 26 {
+                Output::At(place + 1)
+            } else if again {
+                Output::At(0)
+            } else {
+                Output::Empty
+            }
+        }
+    }
+}

@@ -1,0 +1,11 @@
+-- The worked figures, by computation. Assumes nothing.
+use mathlib.Core.Path.{refl}
+use Rattle.leb128.specs.Encoding.{encoded}
+use Rattle.leb128.specs.Decoding.{decoded}
+use Rattle.request.specs.Requests.{requestBytes}
+use Rattle.request.specs.Reading.{readRefusal, parsed}
+use Rattle.request.specs.Figures.{figures, FiguresHold}
+
+pub figures-hold : FiguresHold
+unfolding figures parsed readRefusal decoded requestBytes encoded
+figures-hold = refl

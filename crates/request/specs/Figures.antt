@@ -1,0 +1,48 @@
+-- Worked figures: bytes, and what is read from them and written as them.
+use mathlib.Core.Bool.{cond}
+use mathlib.Core.List.{List, [], _∷_, map}
+use mathlib.Core.Path.{_≡_}
+use Prim.Native.Nat.{ℕ}
+use lib.ListN.{take}
+use Rattle.refusal.specs.First.{accepted}
+use Rattle.refusal.specs.Numbers.{none, truncated, malformed}
+use Rattle.request.specs.declared.Parsed.{Parsed}
+use Rattle.request.specs.Requests.{request, requestBytes}
+use Rattle.request.specs.Reading.{parsed, refused}
+
+-- a figure: bytes, and the answer they are read as
+pub record Row : Type 0 where
+  pub bytes : List ℕ
+  pub answer : Parsed
+
+-- gives the figure of bytes and their answer
+abbrev row : List ℕ → Parsed → Row
+row bytes answer = record { bytes = bytes; answer = answer }
+
+-- gives the answer that is a request and the count of its bytes
+abbrev found : ℕ → ℕ → ℕ → ℕ → Parsed
+found field channel value used = record { refusal = none; request = request field channel value; used = used }
+
+-- requests of each length, one that no converter has, then each kind of fault
+unfoldable pub figures : List Row
+figures =
+    row (2 ∷ 3 ∷ 4 ∷ []) (found 2 3 4 3)
+    ∷ row (2 ∷ 3 ∷ 4 ∷ 0x83 ∷ 0x00 ∷ []) (found 2 3 4 3)
+    ∷ row (0x02 ∷ 0x03 ∷ 0xAC ∷ 0x02 ∷ []) (found 2 3 300 4)
+    ∷ row (0xFF ∷ 0x7F ∷ 0xFF ∷ 0x7F ∷ 0xFF ∷ 0x7F ∷ []) (found 16383 16383 16383 6)
+    ∷ row (99 ∷ 0 ∷ 0 ∷ []) (found 99 0 0 3)
+    ∷ row [] (refused truncated)
+    ∷ row (1 ∷ 2 ∷ []) (refused truncated)
+    ∷ row (1 ∷ 2 ∷ 0x83 ∷ []) (refused truncated)
+    ∷ row (1 ∷ 0x83 ∷ 0x00 ∷ []) (refused malformed)
+    ∷ row (0x83 ∷ 0x80 ∷ []) (refused malformed)
+    ∷ []
+
+-- gives the bytes that an answer's request is written as, none for a refusal
+abbrev bytesOf : Parsed → List ℕ
+bytesOf answer = cond (accepted (answer .refusal)) (requestBytes (answer .request)) []
+
+-- Every row's bytes are read as its answer, and the answer's request is written as the bytes it took.
+abbrev pub FiguresHold : Type 0
+FiguresHold =
+    map (λ (r : Row). row (bytesOf (r .answer)) (parsed (r .bytes))) figures ≡ map (λ (r : Row). row (take (r .answer .used) (r .bytes)) (r .answer)) figures

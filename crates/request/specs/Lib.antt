@@ -1,0 +1,5 @@
+pub mod Requests
+pub mod Reading
+pub mod Writing
+pub mod RoundTrip
+pub mod Figures
