@@ -13,7 +13,7 @@ use Rattle.cases.proofs.Cases.{either, and-both}
 use Rattle.refusal.specs.Numbers.{none}
 use Rattle.refusal.specs.First.{accepted}
 use Rattle.refusal.proofs.First.{exact}
-use Rattle.registers.specs.Addresses.{channelCount, ID, CH1SET, GPIO, LOFF_STATP, LOFF_STATN}
+use Rattle.registers.specs.Addresses.{channelCount, CH1SET, GPIO, LOFF_STATP, LOFF_STATN}
 use Rattle.frame.specs.Codes.{allInRange}
 use Rattle.frame.specs.Frame.{poweredDown, shown, frameOf}
 use Rattle.frame.specs.Reading.{isFrame}
@@ -22,10 +22,10 @@ use Rattle.frame.proofs.RoundTrip.{frames-read-back}
 use Rattle.ads1299.specs.declared.Converter.{Converter}
 use Rattle.ads1299.specs.declared.Moved.{Moved}
 use Rattle.ads1299.specs.Owners.{largestParty, knownOwners}
-use Rattle.ads1299.specs.PowerUp.{validId}
 use Rattle.ads1299.specs.Validity.{valid}
 use Rattle.ads1299.specs.Sample.{complete, sampleRefusals, sampleRefusal, withStatus, framed, taken, sampled}
 use Rattle.ads1299.proofs.ValidState.{parts, whole}
+use Rattle.ads1299.proofs.StaysValid.{taken-valid}
 use Rattle.access.specs.Parties.{knownParty, ownerOf, owns}
 use Rattle.access.specs.Channels.{isChannel}
 use Rattle.access.specs.Reading.{readingRefusal, channelReading, partBytes}
@@ -75,24 +75,15 @@ module _ (s : Converter) (codes : List ℤ) (p n : ℕ) where
   unfolding taken framed
   taken-latest = either (λ (x : Converter). x .latest ≡ frameOf (withStatus (s .registers) p n) codes p n) (s .continuous) (λ e. refl) (λ e. refl)
 
-  taken-valid : valid s ≡ true → valid (taken s codes p n) ≡ true
-  unfolding taken framed
-  taken-valid v =
-      let q = parts s v in
-      let id : validId (getD (withStatus (s .registers) p n) ID 0) ≡ true = rw (status-other (s .registers) p n ID (λ z. omega arith) (λ z. omega arith)) (q .id) in
-      either (λ (x : Converter). valid x ≡ true) (s .continuous)
-      (λ e. whole _ (record { id = id; place = refl; phase = rw e (rw e at (q .phase)); owners = q .owners }))
-      (λ e. whole _ (record { id = id; place = q .place; phase = q .phase; owners = q .owners }))
-
   taken-reads : (channel : ℕ) → ((i : ℕ) → getD (s .registers) i 0 < 256) → p < 256 → n < 256 → valid s ≡ true → complete codes ≡ true → isChannel channel ≡ true
       → ReadsSample (s .registers) codes p n (ownerOf (s .owners) channel) channel (taken s codes p n)
   unfolding complete
-  taken-reads channel r ps ns v whole c =
+  taken-reads channel r ps ns v all c =
       let registers = withStatus (s .registers) p n in
       let gpio : getD registers GPIO 0 < 256 = rw (status-other (s .registers) p n GPIO (λ z. omega arith) (λ z. omega arith)) (r GPIO) in
-      let range = and-both (eqb (length codes) channelCount) (allInRange codes) whole .1 in
+      let range = and-both (eqb (length codes) channelCount) (allInRange codes) all .1 in
       let back : ReadsBack registers codes p n (taken s codes p n .latest) = rw taken-latest (frames-read-back registers codes p n gpio range ps ns) in
-      let read = owner-reads (taken s codes p n) (ownerOf (s .owners) channel) channel (taken-valid v) c (ap (λ (x : List ℕ). ownerOf x channel) taken-owners) registers codes p n back in
+      let read = owner-reads (taken s codes p n) (ownerOf (s .owners) channel) channel (whole _ (taken-valid s (parts s v) codes p n)) c (ap (λ (x : List ℕ). ownerOf x channel) taken-owners) registers codes p n back in
       let same = status-shown (s .registers) codes p n channel c in
       record { read = read .read ∙ rw same; part = read .part ∙ rw same }
 

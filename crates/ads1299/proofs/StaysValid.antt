@@ -28,7 +28,7 @@ use Rattle.protocol.specs.declared.Command.the-variants.{Wakeup, Standby, Reset
 use Rattle.ads1299.specs.PowerUp.{validId, restored}
 use Rattle.ads1299.specs.Registers.{powerUp, masks, written}
 use Rattle.ads1299.specs.declared.Moved.{Moved}
-use Rattle.ads1299.specs.State.{withOutput, withPhase}
+use Rattle.ads1299.specs.State.{withPhase}
 use Rattle.protocol.specs.Commands.{decoded, acts, actsAwake}
 use Rattle.protocol.specs.Transfers.{validPhase, begun, remainder}
 use Rattle.protocol.specs.Output.{validPlace, advanced}
@@ -109,17 +109,12 @@ id-status registers p n = rw (getD-set-other (set registers LOFF_STATP p) LOFF_S
 
 -- output comes with a sample in continuous mode alone, where no command stands half given
 module _ (s : Converter) (v : Parts s) where
-  framed-phase : (p : Phase) (o : Output) → s .continuous ≡ true → validPhase p (interruptible s) ≡ true → validPhase p (interruptible (withOutput s o)) ≡ true
-  framed-phase Waiting o c e = refl
-  framed-phase (Held t) o c e = absurd (false≢true (rw c at e))
-  framed-phase (Counting t) o c e = absurd (false≢true (rw c at e))
-
-  taken-valid : (codes : List ℤ) (p n : ℕ) → Parts (taken s codes p n)
+  pub taken-valid : (codes : List ℤ) (p n : ℕ) → Parts (taken s codes p n)
   unfolding taken framed
   taken-valid codes p n =
       let id : validId (getD (withStatus (s .registers) p n) ID 0) ≡ true = rw (id-status (s .registers) p n) (v .id) in
       either Parts (s .continuous)
-      (λ c. record { id = id; place = refl; phase = framed-phase (s .phase) (At 0) c (v .phase); owners = v .owners })
+      (λ c. record { id = id; place = refl; phase = rw c (rw c at (v .phase)); owners = v .owners })
       (λ c. record { id = id; place = v .place; phase = v .phase; owners = v .owners })
 
 -- a byte that is not refused is followed
