@@ -1,26 +1,23 @@
 -- A state that passes 13 goes on to pass it. Assumes nothing.
-use Prim.Native.Nat.{ℕ, zero, suc, _+_, _-_, _%_, _<_, _≤_}
-use mathlib.Core.Path.{_≡_, refl, sym, _∙_, ap}
-use mathlib.Core.Bool.{Bool, true, false, cond, not, _&&_, false≢true}
+use Prim.Native.Nat.{ℕ, zero, suc, _+_, _%_}
+use mathlib.Core.Path.{_≡_, refl}
+use mathlib.Core.Bool.{Bool, true, false, cond, not, false≢true}
 use mathlib.Core.List.{List, [], _∷_}
-use native.Mathlib.Nat.{mod-lt}
 use native.Mathlib.Omega.{arith}
-use borrow.Author.Tests.{eqb-true, eq-eqb, leb-true, leb-false, le-leb, ltb-true, not-true}
-use lib.Dec.{leb, ltb, eqb}
+use borrow.Author.Tests.{eqb-true, eq-eqb, not-true}
+use lib.Dec.{ltb, eqb}
 use lib.IntN.{ℤ}
 use lib.ListN.{getD, set}
 use lib.Seq.{getD-set-other}
 use lib.Bits.{bitAnd, and-zero-r, and-mask}
 use Rattle.bits.specs.Fields.{masked}
-use Rattle.cases.proofs.Cases.{either, and-both}
+use Rattle.cases.proofs.Cases.{either}
 use Rattle.refusal.specs.First.{accepted}
 use Rattle.registers.specs.Addresses.{ID, LOFF_STATP, LOFF_STATN}
 use Rattle.ads1299.specs.declared.Converter.{Converter}
 use Rattle.protocol.specs.declared.Transfer.{Transfer}
 use Rattle.protocol.specs.declared.Direction.{Direction}
 use Rattle.protocol.specs.declared.Direction.the-variants.{Read, Write}
-use Rattle.protocol.specs.declared.Output.{Output}
-use Rattle.protocol.specs.declared.Output.the-variants.{Empty, At}
 use Rattle.protocol.specs.declared.Phase.{Phase}
 use Rattle.protocol.specs.declared.Phase.the-variants.{Waiting, Held, Counting}
 use Rattle.protocol.specs.declared.Command.{Command}
@@ -29,9 +26,8 @@ use Rattle.ads1299.specs.PowerUp.{validId, restored}
 use Rattle.ads1299.specs.Registers.{powerUp, masks, written}
 use Rattle.ads1299.specs.declared.Moved.{Moved}
 use Rattle.ads1299.specs.State.{withPhase}
-use Rattle.protocol.specs.Commands.{decoded, acts, actsAwake}
-use Rattle.protocol.specs.Transfers.{validPhase, begun, remainder}
-use Rattle.protocol.specs.Output.{validPlace, advanced}
+use Rattle.protocol.specs.Commands.{decoded, acts}
+use Rattle.protocol.specs.Output.{validPlace}
 use Rattle.protocol.proofs.Commands.{lowAddress, decoded-low}
 use Rattle.protocol.proofs.Transfers.{begun-valid, remainder-valid}
 use Rattle.protocol.proofs.OutputPlace.{advanced-valid}

@@ -1,14 +1,12 @@
 -- What a state that passes 13 has, taken apart and put together. Assumes nothing.
-use Prim.Native.Nat.{ℕ, zero, suc, _+_, _-_, _<_, _≤_}
-use mathlib.Core.Path.{_≡_, refl, sym, _∙_, ap}
-use mathlib.Core.Bool.{Bool, true, false, not, _&&_}
+use mathlib.Core.Path.{_≡_}
+use mathlib.Core.Bool.{true, _&&_}
 use lib.ListN.{getD}
 use Rattle.cases.proofs.Cases.{and-both}
 use Rattle.registers.specs.Addresses.{ID}
 use Rattle.ads1299.specs.declared.Converter.{Converter}
 use Rattle.protocol.specs.declared.Transfer.{Transfer}
-use Rattle.protocol.specs.declared.Phase.{Phase}
-use Rattle.protocol.specs.declared.Phase.the-variants.{Waiting, Held, Counting}
+use Rattle.protocol.specs.declared.Phase.the-variants.{Counting}
 use Rattle.ads1299.specs.Owners.{knownOwners}
 use Rattle.ads1299.specs.PowerUp.{validId}
 use Rattle.protocol.specs.Transfers.{countable, validPhase}

@@ -1,10 +1,8 @@
 -- Zero bytes lead back to waiting, and a select rise of an idle converter changes nothing. Assumes nothing.
-use Prim.Native.Nat.{ℕ, zero, suc, _+_, _-_, _<_, _≤_}
+use Prim.Native.Nat.{ℕ, zero, suc, _+_, _≤_}
 use mathlib.Core.Path.{_≡_, refl, sym, _∙_, ap}
-use mathlib.Core.Bool.{Bool, true, false, cond, _&&_}
-use mathlib.Core.List.{List, [], _∷_}
+use mathlib.Core.Bool.{Bool, true}
 use native.Mathlib.Omega.{arith}
-use borrow.Author.Tests.{leb-true, leb-false}
 use lib.Dec.{leb}
 use lib.ListN.{replicate}
 use Rattle.cases.proofs.Cases.{split, either, and-both}
@@ -15,16 +13,15 @@ use Rattle.protocol.specs.declared.Transfer.{Transfer}
 use Rattle.protocol.specs.declared.Direction.{Direction}
 use Rattle.protocol.specs.declared.Direction.the-variants.{Read, Write}
 use Rattle.protocol.specs.declared.Output.{Output}
-use Rattle.protocol.specs.declared.Output.the-variants.{Empty, At}
 use Rattle.protocol.specs.declared.Phase.{Phase}
 use Rattle.protocol.specs.declared.Phase.the-variants.{Waiting, Held, Counting}
 use Rattle.protocol.specs.Commands.{registerCommand, decoded, acts}
 use Rattle.ads1299.specs.Output.{emptied, ignored}
 use Rattle.protocol.specs.Transfers.{countable, validPhase, begun, remainder}
-use Rattle.protocol.proofs.Transfers.{Bounds, bounds}
+use Rattle.protocol.proofs.Transfers.{bounds}
 use Rattle.ads1299.specs.Validity.{valid}
 use Rattle.ads1299.specs.State.{withOutput, withPhase}
-use Rattle.ads1299.specs.Step.{commanded, countedIn, counted, followedIn, followed, stepped}
+use Rattle.ads1299.specs.Step.{commanded, countedIn, counted, followedIn, followed}
 use Rattle.ads1299.specs.Deselect.{moved, deselected}
 use Rattle.ads1299.specs.Run.{after}
 use Rattle.ads1299.specs.Claims.{ReachesWaiting, IdleDeselect}

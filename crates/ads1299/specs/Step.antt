@@ -1,6 +1,6 @@
 -- The byte step (document 01, "The converter, byte by byte"): the byte that goes out, and the state after the byte that comes in.
 use Prim.Native.Nat.{ℕ}
-use mathlib.Core.Bool.{Bool, true, false, cond}
+use mathlib.Core.Bool.{true, false, cond}
 use lib.ListN.{getD}
 use Rattle.refusal.specs.Numbers.{none, invalidState}
 use Rattle.registers.specs.Addresses.{ID}

@@ -1,6 +1,5 @@
 -- The laws of a byte's fields, once over place and width. Assumes nothing.
-use mathlib.Core.Path.{subst, _≡_, refl, sym, _∙_, ap}
-use mathlib.Core.Bool.{Bool, true, false, _&&_}
+use mathlib.Core.Path.{subst, _≡_, sym, _∙_, ap}
 use Prim.Native.Nat.{ℕ, zero, suc, _+_, _*_, _/_, _%_, _^_, _-_, _≤_, _<_}
 use native.Mathlib.Nat.{sub-add-cancel, mod-lt, add-sub-of-le}
 use native.Mathlib.Omega.{arith}

@@ -1,7 +1,7 @@
 -- The laws of a write through a mask. Assumes nothing.
 use Prim.Native.Nat.{ℕ, zero, suc, _+_, _-_, _*_, _/_, _%_, _^_, _<_, _≤_, min}
-use mathlib.Core.Path.{_≡_, refl, sym, _∙_, ap}
-use mathlib.Core.Bool.{Bool, true, false, cond}
+use mathlib.Core.Path.{_≡_, sym, _∙_, ap}
+use mathlib.Core.Bool.{cond}
 use native.Mathlib.Nat.{pow-suc}
 use native.Mathlib.Omega.{arith}
 use native.Mathlib.Numerals.{one-add}
@@ -10,7 +10,7 @@ use lib.Dec.{eqb, leb}
 use lib.Pow.{pow-pos, shr-shr}
 use lib.Bits.{bitAnd, and-step, and-le-r}
 use Rattle.bits.specs.Fields.{field, inserted, masked}
-use Rattle.bits.specs.Laws.{Selects, Covers, PassesMask}
+use Rattle.bits.specs.Laws.{Selects, PassesMask}
 use Rattle.cases.proofs.Cases.{split}
 use Rattle.bits.proofs.Fields.{replaced, same-bits, bit-of-field}
 

@@ -1,6 +1,6 @@
 -- A field of a byte: the w bits from bit p on. Read, replaced, and a write through a mask.
 use Prim.Native.Nat.{ℕ, _+_, _-_, _*_, _/_, _%_, _^_}
-use mathlib.Core.Bool.{Bool, cond, _&&_}
+use mathlib.Core.Bool.{Bool, _&&_}
 use lib.Dec.{leb, ltb}
 use lib.Bits.{bitAnd}
 

@@ -1,6 +1,6 @@
 -- From a computed test to the rule at each number, and to a number where it fails. Assumes nothing.
 use mathlib.Core.Path.{_≡_, sym}
-use mathlib.Core.Logic.{_⊎_, inl, inr}
+use mathlib.Core.Logic.{inl, inr}
 use mathlib.Core.Bool.{Bool, true, false, false≢true}
 use Prim.Native.Nat.{ℕ, zero, suc, _<_}
 use native.Mathlib.Nat.{not-suc-le-zero, eq-or-lt-of-le, suc-inj}

@@ -1,7 +1,7 @@
 -- The bounds of a transfer that counts its bytes, and how they go on. Assumes nothing.
 use Prim.Native.Nat.{ℕ, _+_, _-_, _<_, _≤_}
 use mathlib.Core.Path.{_≡_, refl}
-use mathlib.Core.Bool.{Bool, true, false, not, _&&_}
+use mathlib.Core.Bool.{Bool, true, not, _&&_}
 use native.Mathlib.Nat.{pos-of-ne-zero}
 use native.Mathlib.Omega.{arith}
 use borrow.Author.Tests.{eqb-false, leb-true, leb-false, le-leb, ne-eqb, not-true}
@@ -9,7 +9,7 @@ use lib.Dec.{leb, eqb}
 use Rattle.cases.proofs.Cases.{either, and-both}
 use Rattle.protocol.specs.declared.Transfer.{Transfer}
 use Rattle.protocol.specs.declared.Phase.{Phase}
-use Rattle.protocol.specs.declared.Phase.the-variants.{Waiting, Held, Counting}
+use Rattle.protocol.specs.declared.Phase.the-variants.{Held, Counting}
 use Rattle.protocol.specs.Transfers.{transfer, countable, validPhase, begun, remainder}
 
 -- a transfer that counts its bytes

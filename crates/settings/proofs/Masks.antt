@@ -1,8 +1,8 @@
 -- The fields lie inside the masks, and fill them, wherever the tests say so. Assumes nothing.
 use mathlib.Core.Path.{_≡_}
-use mathlib.Core.Bool.{Bool, true, false, not, _||_}
+use mathlib.Core.Bool.{Bool, true, not, _||_}
 use mathlib.Core.List.{List}
-use Prim.Native.Nat.{ℕ, _-_, _^_, _<_}
+use Prim.Native.Nat.{ℕ, _-_, _^_}
 use lib.Dec.{eqb}
 use lib.ListN.{getD}
 use borrow.Author.Tests.{eqb-true, eq-eqb, ne-eqb, not-true}
@@ -11,7 +11,7 @@ use Rattle.bits.proofs.Masks.{passes-mask}
 use Rattle.cases.specs.Below.{below}
 use Rattle.cases.proofs.Below.{below-at}
 use Rattle.registers.specs.Addresses.{registerCount, GPIO}
-use Rattle.settings.specs.Names.{named, everyName}
+use Rattle.settings.specs.Names.{everyName}
 use Rattle.settings.specs.Places.{place, apart, bitAt}
 use Rattle.settings.specs.Masks.{InsideMasks, FillsMasks, PassesMasks, insideMasks, fillsMasks}
 use Rattle.settings.specs.Values.{settable}

@@ -1,6 +1,6 @@
 -- The laws of places in a list of registers, once over place and width; and so of every field. Assumes nothing.
-use mathlib.Core.Path.{_≡_, refl, sym, _∙_, ap}
-use mathlib.Core.Bool.{Bool, true, false, not, _&&_, _||_}
+use mathlib.Core.Path.{_≡_, sym, _∙_}
+use mathlib.Core.Bool.{true, false, not, _&&_}
 use mathlib.Core.List.{List}
 use Prim.Native.Nat.{ℕ, _+_, _-_, _^_, _≤_, _<_}
 use native.Mathlib.Nat.{add-sub-of-le, lt-of-lt-of-le}
@@ -21,7 +21,7 @@ use Rattle.settings.specs.Places.{place, apart, bitAt}
 use Rattle.settings.specs.Values.{fits, legal, settable}
 use Rattle.settings.specs.Registers.{readAt, writeAt, newByte, fieldOf, withField, fieldByte}
 use Rattle.settings.specs.Claims.{Bytes, Written, Unnamed}
-use Rattle.settings.proofs.Apart.{place-inside, places-apart, Has, has}
+use Rattle.settings.proofs.Apart.{place-inside, places-apart, has}
 
 module _ (l : List ℕ) (k : Place) (v : ℕ) (in-list : k .register < length l) (fit : v < 2 ^ k .width) where
   pub read-same : readAt (writeAt l k v) k ≡ v

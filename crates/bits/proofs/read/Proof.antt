@@ -1,10 +1,10 @@
-use Prim.Native.Nat.{_/_, _^_, _<_, _≤_}
+use Prim.Native.Nat.{_/_, _^_, _≤_}
 use Rattle.bits.proofs.read.Statement.{statement}
 use Rattle.bits.proofs.read.Tie as tie
 use Rattle.bits.specs.Fields.{field}
 use borrow.Author.Needs.{needs}
 use lib.Pow.{pow-pos, pow-mono}
-use mathlib.Core.Path.{sym, _∙_}
+use mathlib.Core.Path.{sym}
 use native.Mathlib.Nat.{div-eq-of-lt, div-le-self, mod-eq-of-lt, mod-le, zero-mod}
 use native.Mathlib.Omega.{arith}
 

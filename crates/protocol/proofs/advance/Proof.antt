@@ -1,6 +1,5 @@
 use Rattle.protocol.proofs.advance.Statement.{statement}
 use Rattle.protocol.proofs.advance.Tie as tie
-use Rattle.protocol.specs.Output.{advanced}
 use borrow.Author.Needs.{needs}
 use borrow.Author.Tests.{le-ltb, lt-ltb}
 

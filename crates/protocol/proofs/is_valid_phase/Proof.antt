@@ -1,6 +1,5 @@
 use Rattle.protocol.proofs.is_valid_phase.Statement.{statement}
 use Rattle.protocol.proofs.is_valid_phase.Tie as tie
-use Rattle.protocol.specs.Transfers.{validPhase}
 use borrow.Author.Needs.{needs}
 
 pub is-valid-phase-spec : {M : Type 1} → statement M

@@ -1,6 +1,5 @@
 use Rattle.protocol.proofs.is_valid_place.Statement.{statement}
 use Rattle.protocol.proofs.is_valid_place.Tie as tie
-use Rattle.protocol.specs.Output.{validPlace}
 use borrow.Author.Needs.{needs}
 
 pub is-valid-place-spec : {M : Type 1} → statement M

@@ -1,6 +1,5 @@
 use Rattle.protocol.proofs.pending_byte.Statement.{statement}
 use Rattle.protocol.proofs.pending_byte.Tie as tie
-use Rattle.protocol.specs.Output.{pending}
 use borrow.Author.Needs.{needs}
 use borrow.Author.Tests.{lt-ltb}
 use lib.ListN.{length, List·getD-eq-default}

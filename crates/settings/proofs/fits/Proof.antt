@@ -1,4 +1,4 @@
-use Prim.Native.Nat.{ℕ, _≤_}
+use Prim.Native.Nat.{_≤_}
 use Rattle.settings.proofs.Rows.{row-width}
 use Rattle.settings.proofs.fits.Statement.{statement}
 use Rattle.settings.proofs.fits.Tie as tie

@@ -1,6 +1,5 @@
 use Rattle.settings.proofs.is_channel.Statement.{statement}
 use Rattle.settings.proofs.is_channel.Tie as tie
-use Rattle.settings.specs.Names.{isChannel}
 use borrow.Author.Needs.{needs}
 use borrow.Author.Tests.{le-leb, lt-leb}
 

@@ -1,6 +1,5 @@
 use Rattle.settings.proofs.is_channel_field.Statement.{statement}
 use Rattle.settings.proofs.is_channel_field.Tie as tie
-use Rattle.settings.specs.Names.{channelField}
 use borrow.Author.Tests.{le-leb, lt-leb}
 
 pub is-channel-field-spec : {M : Type 1} → statement M

@@ -1,4 +1,4 @@
-use Prim.Native.Nat.{_≤_, _<_, _-_}
+use Prim.Native.Nat.{_≤_, _-_}
 use Rattle.ads1299.proofs.Converter.are_known.Statement.{statement}
 use Rattle.ads1299.proofs.Converter.are_known.Tie as tie
 use Rattle.ads1299.specs.Owners.{knownOwners}
