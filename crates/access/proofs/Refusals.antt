@@ -1,6 +1,6 @@
--- Refusals are exact. Assumes nothing.
+-- An answer's number is its refusal, and the two reading calls are refused together. Assumes nothing.
 use Prim.Native.Nat.{ℕ}
-use mathlib.Core.Path.{_≡_, refl, sym}
+use mathlib.Core.Path.{_≡_, sym}
 use mathlib.Core.List.{List}
 use native.Mathlib.Omega.{arith}
 use borrow.Author.Tests.{eqb-true}
@@ -8,12 +8,11 @@ use lib.ListN.{length, length-take, length-drop}
 use Rattle.cases.proofs.Cases.{split}
 use Rattle.refusal.specs.Numbers.{none}
 use Rattle.refusal.specs.First.{accepted}
-use Rattle.refusal.proofs.First.{exact}
 use Rattle.frame.specs.Reading.{channelBytes}
 use Rattle.ads1299.specs.declared.Converter.{Converter}
-use Rattle.access.specs.Grant.{grantRefusals, grantRefusal, granted}
-use Rattle.access.specs.Reading.{readingRefusals, readingRefusal, channelReading, partBytes}
-use Rattle.access.specs.Claims.{ExactRefusals}
+use Rattle.access.specs.Grant.{grantRefusal, granted}
+use Rattle.access.specs.Reading.{readingRefusal, channelReading, partBytes}
+use Rattle.access.specs.Claims.{ThreeOrNone}
 use Rattle.access.proofs.Accepted.{bounds, frame-whole, readable}
 
 pub grant-number : (s : Converter) (caller receiver channel : ℕ) → granted s caller receiver channel .refusal ≡ grantRefusal s caller receiver channel
@@ -34,12 +33,8 @@ part-length s party channel frame e =
     let w = frame-whole frame (ok .framed) in
     simp (length-take, length-drop) (omega arith)
 
-pub exact-refusals : ExactRefusals
-unfolding grantRefusal readingRefusal partBytes
-exact-refusals = record {
-  grants = λ s caller receiver channel. record { first = grant-number s caller receiver channel; exact = exact (grantRefusals s caller receiver channel) refl };
-  readings = λ s party channel frame. record { first = reading-number s party channel frame; exact = exact (readingRefusals s party channel frame) refl };
-  parts = λ s party channel frame.
-      rw (reading-number s party channel frame)
-      (split (accepted (readingRefusal s party channel frame)) (λ e. rw e (part-length s party channel frame (eqb-true _ _ e))) (λ e. rw e));
-}
+pub three-or-none : ThreeOrNone
+unfolding partBytes
+three-or-none s party channel frame =
+    rw (reading-number s party channel frame)
+    (split (accepted (readingRefusal s party channel frame)) (λ e. rw e (part-length s party channel frame (eqb-true _ _ e))) (λ e. rw e))

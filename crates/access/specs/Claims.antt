@@ -1,13 +1,13 @@
 -- What is claimed of grants and readings beyond the functions' contracts.
 use Prim.Native.Nat.{ℕ, _-_, _<_}
 use mathlib.Core.Path.{_≡_}
-use mathlib.Core.Bool.{Bool, true, cond}
+use mathlib.Core.Bool.{true, cond}
 use mathlib.Core.List.{List}
 use lib.Dec.{eqb}
 use lib.IntN.{ℤ}
 use lib.ListN.{length, getD}
 use Rattle.refusal.specs.Numbers.{none}
-use Rattle.refusal.specs.First.{firstOf, accepted, Exact}
+use Rattle.refusal.specs.First.{accepted}
 use Rattle.registers.specs.Addresses.{channelCount}
 use Rattle.frame.specs.Codes.{wordOf}
 use Rattle.frame.specs.Words.{bit, wordBytes}
@@ -20,8 +20,8 @@ use Rattle.ads1299.specs.Validity.{valid}
 use Rattle.ads1299.specs.Sample.{sampled}
 use Rattle.access.specs.Parties.{ownerOf}
 use Rattle.access.specs.Channels.{isChannel}
-use Rattle.access.specs.Grant.{grantRefusals, granted}
-use Rattle.access.specs.Reading.{readingRefusals, reading, channelReading, partBytes, partPlace}
+use Rattle.access.specs.Grant.{granted}
+use Rattle.access.specs.Reading.{reading, channelReading, partBytes, partPlace}
 
 -- two states pass 13 with the same owners, and two lists of bytes agree in length, in the first four bits, in a channel's bytes and in its two lead-off bits
 pub record Alike (s t : Converter) (channel : ℕ) (first second : List ℕ) : Type 0 where
@@ -61,19 +61,11 @@ GrantMovesOneOwner =
     → length (s .owners) ≡ channelCount
     → OneOwnerMoves s receiver channel (granted s caller receiver channel)
 
--- an answer's number is that of the first refusal that applies, and so 0 exactly when none does
-pub record Judged (tests : List (Bool × ℕ)) (number : ℕ) : Type 0 where
-  pub first : number ≡ firstOf tests
-  pub exact : Exact tests
-
--- Grants and readings are refused exactly as their lists say; and the second call gives three bytes exactly when the first one accepts, else none.
-pub record ExactRefusals : Type 0 where
-  pub grants : (s : Converter) (caller receiver channel : ℕ)
-      → Judged (grantRefusals s caller receiver channel) (granted s caller receiver channel .refusal)
-  pub readings : (s : Converter) (party channel : ℕ) (frame : List ℕ)
-      → Judged (readingRefusals s party channel frame) (channelReading s party channel frame .refusal)
-  pub parts : (s : Converter) (party channel : ℕ) (frame : List ℕ)
-      → length (partBytes s party channel frame) ≡ cond (accepted (channelReading s party channel frame .refusal)) 3 0
+-- The second call gives three bytes exactly when the first one accepts, else none.
+abbrev pub ThreeOrNone : Type 0
+ThreeOrNone =
+    (s : Converter) (party channel : ℕ) (frame : List ℕ)
+    → length (partBytes s party channel frame) ≡ cond (accepted (channelReading s party channel frame .refusal)) 3 0
 
 -- a party reads from the latest frame what was sampled: the channel's code, or 0 where it is powered down, and its bits of P and N
 pub record ReadsSample (registers : List ℕ) (codes : List ℤ) (p n party channel : ℕ) (next : Converter) : Type 0 where

@@ -27,9 +27,13 @@ valueRead bytes = decoded groups (drop (fieldRead bytes .used + channelRead byte
 abbrev pub refusalOf : Number → Bool × ℕ
 refusalOf number = (not (accepted (number .refusal)), number .refusal)
 
+-- the refusals of a request's bytes, from left to right
+abbrev pub readRefusals : List ℕ → List (Bool × ℕ)
+readRefusals bytes = refusalOf (fieldRead bytes) ∷ refusalOf (channelRead bytes) ∷ refusalOf (valueRead bytes) ∷ []
+
 -- gives the refusal of the first number that has one, or 0
 unfoldable pub readRefusal : List ℕ → ℕ
-readRefusal bytes = firstOf (refusalOf (fieldRead bytes) ∷ refusalOf (channelRead bytes) ∷ refusalOf (valueRead bytes) ∷ [])
+readRefusal bytes = firstOf (readRefusals bytes)
 
 -- gives the answer of a refusal: all else is 0
 abbrev pub refused : ℕ → Parsed

@@ -1,5 +1,5 @@
 -- A request that is written into a buffer, from its start on.
-use mathlib.Core.Bool.{cond, not}
+use mathlib.Core.Bool.{Bool, cond, not}
 use mathlib.Core.List.{List, [], _∷_, _++_}
 use Prim.Native.Nat.{ℕ}
 use lib.Dec.{ltb}
@@ -12,9 +12,13 @@ use Rattle.request.specs.declared.Written.{Written}
 use Rattle.request.specs.declared.Staged.{Staged}
 use Rattle.request.specs.Requests.{longest, requestBytes, writable}
 
--- gives the refusal of a request in a buffer of so many bytes, or 0: first a number too large, then too little room
+-- the refusals of a request in a buffer of so many bytes: first a number too large, then too little room
+abbrev pub writeRefusals : Request → ℕ → List (Bool × ℕ)
+writeRefusals r room = (not (writable r), badValue) ∷ (ltb room (length (requestBytes r)), noRoom) ∷ []
+
+-- gives the refusal of a request in a buffer of so many bytes, or 0
 unfoldable pub writeRefusal : Request → ℕ → ℕ
-writeRefusal r room = firstOf ((not (writable r), badValue) ∷ (ltb room (length (requestBytes r)), noRoom) ∷ [])
+writeRefusal r room = firstOf (writeRefusals r room)
 
 -- gives the writer's answer: the count of the bytes written, or the refusal
 unfoldable pub written : Request → List ℕ → Written

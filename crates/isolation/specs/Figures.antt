@@ -1,0 +1,81 @@
+-- Worked figures: lists of two parties' requests for one register, in several orders and from several states.
+use Prim.Native.Nat.{ℕ}
+use mathlib.Core.Path.{_≡_}
+use mathlib.Core.Bool.{false}
+use mathlib.Core.List.{List, [], _∷_, map}
+use lib.ListN.{getD}
+use Rattle.registers.specs.Addresses.{BIAS_SENSP}
+use Rattle.protocol.specs.declared.Direction.the-variants.{Read}
+use Rattle.protocol.specs.declared.Output.{Output}
+use Rattle.protocol.specs.declared.Output.the-variants.{Empty, At}
+use Rattle.protocol.specs.declared.Phase.the-variants.{Held}
+use Rattle.protocol.specs.Transfers.{transfer}
+use Rattle.ads1299.specs.declared.Converter.{Converter}
+use Rattle.ads1299.specs.State.{withOwners, withOutput, withContinuous, withPhase}
+use Rattle.ads1299.specs.PowerUp.{poweredUp}
+use Rattle.planner.specs.Submission.{Submission}
+use Rattle.isolation.specs.Lists.{numbers, plans, end}
+
+-- A list of requests from a state, with the numbers, the plans, BIAS_SENSP and the output at the end.
+pub record Figure : Type 0 where
+  pub first : Converter
+  pub requests : List Submission
+  pub answers : List ℕ
+  pub bytes : List (List ℕ)
+  pub register : ℕ
+  pub output : Output
+
+-- gives a figure worked out anew
+abbrev pub workedOut : Figure → Figure
+workedOut figure =
+    record {
+      first = figure .first;
+      requests = figure .requests;
+      answers = numbers (figure .first) (figure .requests);
+      bytes = plans (figure .first) (figure .requests);
+      register = getD (end (figure .first) (figure .requests) .registers) BIAS_SENSP 0;
+      output = end (figure .first) (figure .requests) .output;
+    }
+
+-- gives a figure from its parts
+abbrev pub row : Converter → List Submission → List ℕ → List (List ℕ) → ℕ → Output → Figure
+row first requests answers bytes register output =
+    record { first = first; requests = requests; answers = answers; bytes = bytes; register = register; output = output }
+
+-- gives a party's request for field 5 (BIASPn) of a channel to be on, with room for this many bytes
+abbrev pub on : ℕ → ℕ → ℕ → Submission
+on party channel room = record { party = party; request = record { field = 5; channel = channel; value = 1 }; room = room }
+
+-- gives a fresh state with output pending, in which channels 1 and 2 are party 1's and channels 3 and 4 party 2's
+abbrev pub shared : Converter
+shared = withOutput (withOwners (poweredUp 0x3E .converter) (1 ∷ 1 ∷ 2 ∷ 2 ∷ 0 ∷ 0 ∷ 0 ∷ 0 ∷ [])) (At 3)
+
+-- gives that state with an owner that is no party
+abbrev pub invalid : Converter
+invalid = withOwners shared (9 ∷ 1 ∷ 2 ∷ 2 ∷ 0 ∷ 0 ∷ 0 ∷ 0 ∷ [])
+
+-- gives that state in command mode, half through a read
+abbrev pub halfway : Converter
+halfway = withPhase (withContinuous (withOutput shared Empty) false) (Held (transfer Read BIAS_SENSP 0))
+
+-- gives the plan in continuous mode with a data byte for BIAS_SENSP
+abbrev pub writes : ℕ → List ℕ
+writes byte = 0x11 ∷ 0x4D ∷ 0x00 ∷ byte ∷ 0x10 ∷ []
+
+-- gives the table: two merges of the same lists; an unknown party's request before another; then lists with none accepted
+abbrev pub figures : List Figure
+figures =
+    row shared (on 1 1 5 ∷ on 2 3 5 ∷ on 1 3 5 ∷ on 1 2 5 ∷ [])
+    (0 ∷ 0 ∷ 6 ∷ 0 ∷ []) (writes 0x01 ∷ writes 0x05 ∷ [] ∷ writes 0x07 ∷ []) 0x07 Empty
+    ∷ row shared (on 1 1 5 ∷ on 1 3 5 ∷ on 1 2 5 ∷ on 2 3 5 ∷ [])
+    (0 ∷ 6 ∷ 0 ∷ 0 ∷ []) (writes 0x01 ∷ [] ∷ writes 0x03 ∷ writes 0x07 ∷ []) 0x07 Empty
+    ∷ row shared (on 9 1 5 ∷ on 2 3 5 ∷ []) (3 ∷ 0 ∷ []) ([] ∷ writes 0x04 ∷ []) 0x04 Empty
+    ∷ row shared (on 0 1 5 ∷ on 2 3 4 ∷ on 1 9 5 ∷ []) (6 ∷ 9 ∷ 5 ∷ []) ([] ∷ [] ∷ [] ∷ []) 0x00 (At 3)
+    ∷ row shared [] [] [] 0x00 (At 3)
+    ∷ row halfway (on 1 1 5 ∷ on 2 1 5 ∷ []) (8 ∷ 6 ∷ []) ([] ∷ [] ∷ []) 0x00 Empty
+    ∷ row invalid (on 9 1 5 ∷ on 2 3 5 ∷ []) (13 ∷ 13 ∷ []) ([] ∷ [] ∷ []) 0x00 (At 3)
+    ∷ []
+
+-- every figure of the table is what the definitions give
+abbrev pub FiguresHold : Type 0
+FiguresHold = map workedOut figures ≡ figures

@@ -1,0 +1,84 @@
+-- Merges of the parties' lists, and what is to be told about one party's requests in a merge.
+use Prim.Native.Nat.{ℕ}
+use mathlib.Core.Path.{_≡_}
+use mathlib.Core.Bool.{Bool, true, false, cond, _&&_}
+use mathlib.Core.List.{List, [], _∷_, getLastD}
+use lib.Dec.{eqb, ltb}
+use Rattle.bits.specs.Fields.{field}
+use Rattle.refusal.specs.First.{accepted}
+use Rattle.ads1299.specs.declared.Converter.{Converter}
+use Rattle.settings.specs.Table.{rowOf}
+use Rattle.settings.specs.Names.{named}
+use Rattle.settings.specs.Places.{place, apart, bitAt}
+use Rattle.planner.specs.Submission.{Submission}
+use Rattle.planner.specs.Refusals.{fieldOwner}
+use Rattle.planner.specs.Plan.{planAround}
+use Rattle.isolation.specs.Reference.{names, firstCells}
+
+-- gives the requests of one party, in their order
+unfoldable pub from : ℕ → List Submission → List Submission
+from party [] = []
+from party (x ∷ l) = cond (eqb (x .party) party) (x ∷ from party l) (from party l)
+
+-- gives what one party's requests were answered, of a list with one answer for each request
+unfoldable pub answersTo {ℓ} : {A : Type ℓ} → ℕ → List Submission → List A → List A
+answersTo party [] answers = []
+answersTo party (x ∷ l) [] = []
+answersTo party (x ∷ l) (answer ∷ answers) = cond (eqb (x .party) party) (answer ∷ answersTo party l answers) (answersTo party l answers)
+
+-- A list for each party number: the administrator's, the tenants', and those of numbers that no party has.
+abbrev pub Lists : Type 0
+Lists = ℕ → List Submission
+
+-- A list is a merge of the parties' lists: it has each party's requests, all of them and in their order, and no other.
+abbrev pub Merge : Lists → List Submission → Type 0
+Merge lists l = (party : ℕ) → from party l ≡ lists party
+
+-- gives the parties' lists with one of them replaced
+unfoldable pub replaced : Lists → ℕ → List Submission → Lists
+replaced lists party l other = cond (eqb party other) l (lists other)
+
+-- A list is had from the parties' lists by taking the head of a party's own list again and again, until nothing is left.
+pub data Interleaving : Lists → List Submission → Type 0 where
+  nothing-left : {lists : Lists} → ((party : ℕ) → lists party ≡ []) → Interleaving lists []
+  take-head : {lists : Lists} {l : List Submission} (x : Submission) (tail : List Submission) → lists (x .party) ≡ x ∷ tail
+      → Interleaving (replaced lists (x .party) tail) l → Interleaving lists (x ∷ l)
+
+-- gives the values that accepted requests gave field f of channel n, of a list with its numbers
+unfoldable pub acceptedValues : ℕ → ℕ → List Submission → List ℕ → List ℕ
+acceptedValues f n [] numbers = []
+acceptedValues f n (x ∷ l) [] = []
+acceptedValues f n (x ∷ l) (number ∷ numbers) =
+    cond (accepted number && names x f n) (x .request .value ∷ acceptedValues f n l numbers) (acceptedValues f n l numbers)
+
+-- gives the last value that a list's accepted requests gave the field, by their numbers, or its value in the first state
+unfoldable pub lastAccepted : Converter → ℕ → ℕ → List Submission → List ℕ → ℕ
+lastAccepted s f n l numbers = getLastD (acceptedValues f n l numbers) (firstCells s f n)
+
+-- No other party's field has bit i of register r.
+abbrev pub Own : Converter → ℕ → ℕ → ℕ → Type 0
+Own s party r i =
+    (f n : ℕ) → named f n ≡ true
+    → apart (place f n) (bitAt r i) ≡ false
+    → fieldOwner (s .owners) f n ≡ party
+
+-- the field's register has a bit of each channel, and so bits of several parties
+abbrev pub spread : ℕ → Bool
+spread f = ltb 0 (rowOf f .bitStep)
+
+-- Two plans of one request with its number: no bytes where it is refused; else the same bytes around two data bytes, which agree
+-- in every bit that no other party's field has, and wholly where the register has no other party's bits.
+pub record Alike (s : Converter) (x : Submission) (number : ℕ) (first second : List ℕ) : Type 0 where
+  pub one : ℕ
+  pub other : ℕ
+  pub first-is : first ≡ cond (accepted number) (planAround s (x .request) one) []
+  pub second-is : second ≡ cond (accepted number) (planAround s (x .request) other) []
+  pub own-bits : (i : ℕ) → Own s (x .party) (place (x .request .field) (x .request .channel) .register) i → field one i 1 ≡ field other i 1
+  pub same-plan : spread (x .request .field) ≡ false → first ≡ second
+
+-- The plans of a list of requests with their numbers are alike, one by one.
+pub data AllAlike (s : Converter) : List Submission → List ℕ → List (List ℕ) → List (List ℕ) → Type 0 where
+  no-plans : AllAlike s [] [] [] []
+  more-plans : {x : Submission} {number : ℕ} {first second : List ℕ} {l : List Submission} {numbers : List ℕ} {firsts seconds : List (List ℕ)}
+      → Alike s x number first second → AllAlike s l numbers firsts seconds
+      → AllAlike s (x ∷ l) (number ∷ numbers) (first ∷ firsts) (second ∷ seconds)

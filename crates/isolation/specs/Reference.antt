@@ -1,0 +1,44 @@
+-- The reference model (document 01: the chart): a cell for each field, and a step that knows no register and no byte.
+use Prim.Native.Nat.{ℕ}
+use mathlib.Core.Bool.{Bool, cond, _&&_}
+use mathlib.Core.List.{List, [], _∷_}
+use Rattle.refusal.specs.First.{accepted}
+use Rattle.ads1299.specs.declared.Converter.{Converter}
+use Rattle.settings.specs.Registers.{fieldOf}
+use Rattle.settings.specs.Claims.{same}
+use Rattle.planner.specs.Submission.{Submission}
+use Rattle.planner.specs.Refusals.{Values, judged}
+
+-- the request names field f of channel n
+abbrev pub names : Submission → ℕ → ℕ → Bool
+names x f n = same (x .request .field) (x .request .channel) f n
+
+-- gives the answer to a request: the first refusal that applies, by the cells and else by the first state, or 0
+abbrev pub referenceNumber : Converter → Values → Submission → ℕ
+referenceNumber first cells x = judged first cells x
+
+-- gives the cells after a request: the named cell takes the value where the request is accepted, and no other cell changes
+unfoldable pub cellsAfter : Converter → Values → Submission → Values
+cellsAfter first cells x f n = cond (accepted (referenceNumber first cells x) && names x f n) (x .request .value) (cells f n)
+
+-- gives the numbers that a list of requests is answered, from the cells as they stand
+unfoldable pub numbersFrom : Converter → Values → List Submission → List ℕ
+numbersFrom first cells [] = []
+numbersFrom first cells (x ∷ l) = referenceNumber first cells x ∷ numbersFrom first (cellsAfter first cells x) l
+
+-- gives the cells that a list of requests leaves, from the cells as they stand
+unfoldable pub cellsFrom : Converter → Values → List Submission → Values
+cellsFrom first cells [] = cells
+cellsFrom first cells (x ∷ l) = cellsFrom first (cellsAfter first cells x) l
+
+-- gives the cells at first: each field's value in the first state
+abbrev pub firstCells : Converter → Values
+firstCells first = fieldOf (first .registers)
+
+-- gives the reference model's numbers for a list of requests
+abbrev pub referenceNumbers : Converter → List Submission → List ℕ
+referenceNumbers first l = numbersFrom first (firstCells first) l
+
+-- gives the reference model's cells after a list of requests
+abbrev pub referenceCells : Converter → List Submission → Values
+referenceCells first l = cellsFrom first (firstCells first) l

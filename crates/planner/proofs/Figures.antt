@@ -1,0 +1,28 @@
+-- One claim about all the figures, by computation. Assumes nothing.
+use mathlib.Core.Path.{refl}
+use Rattle.bits.specs.Fields.{field, inserted, masked}
+use Rattle.frame.specs.Codes.{wordOf, codeOf}
+use Rattle.frame.specs.Words.{bit, word, wordBytes, wordAt, joined}
+use Rattle.frame.specs.Frame.{statusWord, poweredDown, shown, frameWord, frameOf}
+use Rattle.protocol.specs.Commands.{registerCommand, decoded, acts}
+use Rattle.protocol.specs.Transfers.{begun, remainder, countable}
+use Rattle.ads1299.specs.Registers.{powerUp, masks, registerAt, written}
+use Rattle.ads1299.specs.PowerUp.{validId, restored, poweredUp}
+use Rattle.ads1299.specs.Output.{emptied, ignored}
+use Rattle.ads1299.specs.Validity.{validConverter, valid}
+use Rattle.ads1299.specs.Step.{effect, commanded, counted, outgoing, followed, stepped}
+use Rattle.ads1299.specs.Run.{after, outs}
+use Rattle.access.specs.Parties.{knownParty, ownerOf}
+use Rattle.settings.specs.Table.{table, rowOf}
+use Rattle.settings.specs.Names.{named}
+use Rattle.settings.specs.Places.{place}
+use Rattle.settings.specs.Values.{fits, legal, settable}
+use Rattle.settings.specs.Registers.{fieldByte}
+use Rattle.planner.specs.Refusals.{judged}
+use Rattle.planner.specs.Plan.{planOf}
+use Rattle.planner.specs.Planned.{refusalOf, plan, planned}
+use Rattle.planner.specs.Figures.{FiguresHold}
+
+pub figures-hold : FiguresHold
+unfolding field inserted masked wordOf codeOf bit word wordBytes wordAt joined statusWord poweredDown shown frameWord frameOf registerCommand decoded acts begun remainder countable powerUp masks registerAt written validId restored poweredUp emptied ignored validConverter valid effect commanded counted outgoing followed stepped after outs knownParty ownerOf table rowOf named place fits legal settable fieldByte judged planOf refusalOf plan planned
+figures-hold = refl

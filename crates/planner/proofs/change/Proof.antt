@@ -1,0 +1,6 @@
+use borrow.Author.Needs.{needs}
+use Rattle.planner.proofs.change.Statement.{statement}
+use Rattle.planner.proofs.change.Tie as tie
+
+pub change-spec : {M : Type 1} → statement M
+change-spec = tie.close (tie.spec (λ c κs. search needs) (λ c. simp (← c .before .before .before .write .ensures)))

@@ -1,0 +1,10 @@
+pub mod Submission
+pub mod Refusals
+pub mod Plan
+pub mod Planned
+pub mod Buffer
+pub mod Writer
+pub mod Demand1
+pub mod Demand2
+pub mod Placement
+pub mod Figures

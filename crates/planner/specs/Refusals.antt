@@ -1,0 +1,41 @@
+-- The refusals of a setting request, in the order in which they are tried (document 01, "Refusal numbers").
+use Prim.Native.Nat.{ℕ}
+use mathlib.Core.Bool.{Bool, cond, not}
+use mathlib.Core.List.{List, [], _∷_}
+use lib.Dec.{eqb, ltb}
+use Rattle.refusal.specs.Numbers.{unknownParty, unknownField, wrongChannel, notOwner, badValue, notWaiting, noRoom, invalidState}
+use Rattle.refusal.specs.First.{firstOf}
+use Rattle.protocol.specs.Transfers.{isWaiting}
+use Rattle.ads1299.specs.declared.Converter.{Converter}
+use Rattle.ads1299.specs.Owners.{admin}
+use Rattle.ads1299.specs.Validity.{valid}
+use Rattle.access.specs.Parties.{knownParty, ownerOf}
+use Rattle.settings.specs.Names.{isField, channelField, isChannel}
+use Rattle.settings.specs.Values.{legal}
+use Rattle.planner.specs.Submission.{Submission}
+use Rattle.planner.specs.Plan.{planLength}
+
+-- gives the owner of field f of channel n: a channel field's is the channel's owner, a shared field's the administrator
+abbrev pub fieldOwner : List ℕ → ℕ → ℕ → ℕ
+fieldOwner owners f n = cond (channelField f) (ownerOf owners n) admin
+
+-- gives the value of each field and channel
+abbrev pub Values : Type 0
+Values = ℕ → ℕ → ℕ
+
+-- the tests with their numbers, given the fields' values, which none of them reads yet
+abbrev pub refusals : Converter → Values → Submission → List (Bool × ℕ)
+refusals s values x =
+    (not (valid s), invalidState)
+    ∷ (not (knownParty (x .party)), unknownParty)
+    ∷ (not (isField (x .request .field)), unknownField)
+    ∷ (not (isChannel (x .request .field) (x .request .channel)), wrongChannel)
+    ∷ (not (eqb (x .party) (fieldOwner (s .owners) (x .request .field) (x .request .channel))), notOwner)
+    ∷ (not (legal (x .request .field) (x .request .value)), badValue)
+    ∷ (not (isWaiting (s .phase)), notWaiting)
+    ∷ (ltb (x .room) (planLength s), noRoom)
+    ∷ []
+
+-- gives the request's refusal number, or 0
+unfoldable pub judged : Converter → Values → Submission → ℕ
+judged s values x = firstOf (refusals s values x)

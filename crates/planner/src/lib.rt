@@ -1,0 +1,244 @@
+// From a setting request to the bytes that the converter is sent.
+ghost use mathlib.Core.Bool.{true};
+ghost use mathlib.Core.Path.{_≡_};
+ghost use Prim.Native.Nat.{_<_, _≤_};
+ghost use lib.Dec.{eqb};
+ghost use lib.ListN.{length};
+ghost use Rattle.registers.specs.Addresses.{registerCount};
+ghost use Rattle.protocol.specs.Transfers.{isWaiting};
+ghost use Rattle.ads1299.specs.State.{withRegisters, withOutput};
+ghost use Rattle.ads1299.specs.Formed.{Formed};
+ghost use Rattle.access.specs.Parties.{knownParty};
+ghost use Rattle.settings.specs.Names.{isChannel};
+ghost use Rattle.settings.specs.Registers.{withField};
+ghost use Rattle.planner.specs.Submission.{roomAt, submission};
+ghost use Rattle.planner.specs.Refusals.{fieldOwner};
+ghost use Rattle.planner.specs.Plan.{planLength};
+ghost use Rattle.planner.specs.Planned.{refusalOf, planned, answerOf};
+ghost use Rattle.planner.specs.Buffer.{txAfter};
+ghost use Rattle.planner.specs.Writer.{planBytes, overlaid};
+use ads1299::Converter;
+use protocol::Output;
+use protocol::Phase;
+use request::Request;
+
+// The plan's length and the state after the plan, whose bytes are not to be fed to that state again.
+pub struct Planned {
+    pub refusal: u8,
+    pub length: usize,
+    pub next: Converter,
+}
+
+// What the planner answers beside the state.
+pub struct Answer {
+    pub refusal: u8,
+    pub length: usize,
+}
+
+fn is_known_party(party: u32) -> bool
+    ensures { λ r. ⌜ r ≡ knownParty party ⌝ }
+{
+    party <= ads1299::LARGEST_PARTY as u32
+}
+
+// The owner of a channel field is the channel's, that of a shared field the administrator.
+fn field_owner(owners: [u8; 8], field: u32, channel: u32) -> u8
+    requires { ⌜ isChannel field channel ≡ true ⌝ }
+    ensures { λ r. ⌜ r ≡ fieldOwner owners field channel ⌝ }
+{
+    if settings::is_channel_field(field) {
+        let at = (channel - 1) as usize;
+        owners[at]
+    } else {
+        ads1299::ADMIN
+    }
+}
+
+// The party is the field's owner; compared whole, and never cut to a byte before.
+fn is_field_owner(owners: [u8; 8], party: u32, field: u32, channel: u32) -> bool
+    requires { ⌜ isChannel field channel ≡ true ⌝ }
+    ensures { λ r. ⌜ r ≡ eqb party (fieldOwner owners field channel) ⌝ }
+{
+    party == field_owner(owners, field, channel) as u32
+}
+
+fn is_waiting(phase: Phase) -> bool
+    ensures { λ r. ⌜ r ≡ isWaiting phase ⌝ }
+{
+    match phase {
+        Phase::Waiting => true,
+        Phase::Held(_) => false,
+        Phase::Counting(_) => false,
+    }
+}
+
+// A plan's length depends on the mode alone.
+fn plan_length(c: Converter) -> usize
+    ensures { λ r. ⌜ r ≡ planLength c ⌝ }
+{
+    if c.standby {
+        if c.continuous { 7 } else { 5 }
+    } else {
+        if c.continuous { 5 } else { 3 }
+    }
+}
+
+// The bytes from a place on, counted without a sum that could wrap.
+fn count_room(tx: &[u8], at: usize) -> usize
+    ensures { λ r. ⌜ r ≡ roomAt (now (tx .entry)) at ⌝ }
+{
+    if tx.len() < at { 0 } else { tx.len() - at }
+}
+
+// The tests in the order of document 01: the owner before the value, so that a stranger does not learn what is legal.
+fn refuse(c: Converter, party: u32, request: Request, room: usize) -> u8
+    ensures { λ r. ⌜ r ≡ refusalOf c (record { party = party; request = request; room = room }) ⌝ }
+{
+    if !c.is_valid() {
+        return refusal::INVALID_STATE;
+    }
+    if !is_known_party(party) {
+        return refusal::UNKNOWN_PARTY;
+    }
+    if !settings::is_field(request.field) {
+        return refusal::UNKNOWN_FIELD;
+    }
+    if !settings::is_channel(request.field, request.channel) {
+        return refusal::WRONG_CHANNEL;
+    }
+    let owners = c.owners;
+    if !is_field_owner(owners, party, request.field, request.channel) {
+        return refusal::NOT_OWNER;
+    }
+    if !settings::is_legal(request.field, request.value) {
+        return refusal::BAD_VALUE;
+    }
+    let phase = c.phase;
+    if !is_waiting(phase) {
+        return refusal::NOT_WAITING;
+    }
+    if room < plan_length(c) {
+        return refusal::NO_ROOM;
+    }
+    refusal::NONE
+}
+
+// Writes bytes over the start of a part, and gives their number.
+fn put(part: &mut [u8], bytes: &[u8]) -> usize
+    requires { ⌜ length (now bytes) ≤ length (now part) ⌝ }
+    ensures { λ r. ⌜ (r ≡ length (now (bytes .entry)))
+        × (now (part .exit) ≡ overlaid (now (part .entry)) (now (bytes .entry))) ⌝ }
+{
+    bytes::copy(bytes, part)
+}
+
+// Writes the plan, 3 to 7 bytes, over the start of the part that it is lent, and gives its length.
+fn write_plan(part: &mut [u8], standby: bool, continuous: bool, address: u8, byte: u8) -> usize
+    requires { ⌜ (address < registerCount) × (length (planBytes standby continuous address byte) ≤ length (now part)) ⌝ }
+    ensures { λ r. ⌜ (r ≡ length (planBytes standby continuous address byte))
+        × (now (part .exit) ≡ overlaid (now (part .entry)) (planBytes standby continuous address byte)) ⌝ }
+{
+    let command = protocol::WREG + address;
+    if standby {
+        if continuous {
+            let plan = [
+                protocol::WAKEUP,
+                protocol::SDATAC,
+                command,
+                0,
+                byte,
+                protocol::RDATAC,
+                protocol::STANDBY,
+            ];
+            return put(part, &plan);
+        }
+        let plan = [protocol::WAKEUP, command, 0, byte, protocol::STANDBY];
+        return put(part, &plan);
+    }
+    if continuous {
+        let plan = [protocol::SDATAC, command, 0, byte, protocol::RDATAC];
+        return put(part, &plan);
+    }
+    let plan = [command, 0, byte];
+    put(part, &plan)
+}
+
+// The state after the plan, without a byte sent: the field set, and what was pending lost.
+fn change(c: Converter, request: Request) -> Converter
+    ensures { λ r. ⌜ r ≡ withOutput (withRegisters c (withField (c .registers) (request .field) (request .channel) (request .value))) Output.Empty ⌝ }
+{
+    let before = c.registers;
+    let registers = settings::write(before, request.field, request.channel, request.value);
+    Converter {
+        registers,
+        output: Output::Empty,
+        ..c
+    }
+}
+
+// Plans a request: the plan goes into the transmit buffer (document 01: sheet) from a place on, and all else there stays.
+pub fn plan(c: Converter, party: u32, request: Request, tx: &mut [u8], at: usize) -> Planned
+    ensures planned { λ r. ⌜ (r ≡ planned c (submission party request (now (tx .entry)) at))
+        × (now (tx .exit) ≡ txAfter c (submission party request (now (tx .entry)) at) (now (tx .entry)) at) ⌝ }
+    ensures formed { λ _. ⌜ Formed c ⌝ }
+{
+    let number = refuse(c, party, request, count_room(tx, at));
+    if number == refusal::NONE {
+        let registers = c.registers;
+        let place = settings::locate(request.field, request.channel);
+        let byte = settings::new_byte(registers, request.field, request.channel, request.value);
+        let length = write_plan(&mut tx[at..], c.standby, c.continuous, place.register, byte);
+        let next = change(c, request);
+        Planned {
+            refusal: refusal::NONE,
+            length,
+            next,
+        }
+    } else {
+        Planned {
+            refusal: number,
+            length: 0,
+            next: c,
+        }
+    }
+}
+
+// The bench's live state is lent and changed where it lies: one call of the planner and one store.
+pub fn plan_live(
+    live: &mut Converter,
+    party: u32,
+    request: Request,
+    tx: &mut [u8],
+    at: usize,
+) -> Answer
+    ensures { λ r. ⌜ (r ≡ answerOf (planned (now (live .entry)) (submission party request (now (tx .entry)) at)))
+        × ((now (live .exit) ≡ planned (now (live .entry)) (submission party request (now (tx .entry)) at) .next)
+        × (now (tx .exit) ≡ txAfter (now (live .entry)) (submission party request (now (tx .entry)) at) (now (tx .entry)) at)) ⌝ }
+{
+    let planned = plan(*live, party, request, tx, at);
+    *live = planned.next;
+    Answer {
+        refusal: planned.refusal,
+        length: planned.length,
+    }
+}
+
+// The same as plan, by way of a local state that is lent: its parameters are plain, so that its callers need no walk.
+pub fn plan_borrowed(
+    c: Converter,
+    party: u32,
+    request: Request,
+    tx: &mut [u8],
+    at: usize,
+) -> Planned
+    ensures { λ r. ⌜ (r ≡ planned c (submission party request (now (tx .entry)) at))
+        × (now (tx .exit) ≡ txAfter c (submission party request (now (tx .entry)) at) (now (tx .entry)) at) ⌝ }
+{
+    let mut live = c;
+    let answer = plan_live(&mut live, party, request, tx, at);
+    Planned {
+        refusal: answer.refusal,
+        length: answer.length,
+        next: live,
+    }
+}
