@@ -9,7 +9,7 @@ use super::parties;
 use crate::Reading;
 use ads1299::Converter;
 
-fn owner(owners: [u8; 8], channel: u32) -> u8
+fn owner(owners: [u8; registers::CHANNELS], channel: u32) -> u8
     requires { ⌜ isChannel channel ≡ true ⌝ }
     ensures { λ r. ⌜ r ≡ ownerOf owners channel ⌝ }
 {
@@ -17,7 +17,7 @@ fn owner(owners: [u8; 8], channel: u32) -> u8
     owners[at]
 }
 
-fn is_owner(owners: [u8; 8], party: u32, channel: u32) -> bool
+fn is_owner(owners: [u8; registers::CHANNELS], party: u32, channel: u32) -> bool
     requires { ⌜ isChannel channel ≡ true ⌝ }
     ensures { λ r. ⌜ r ≡ owns owners party channel ⌝ }
 {

@@ -14,14 +14,14 @@ pub const LARGEST_PARTY: u8 = 8;
 
 // The order of the fields keeps each array at a multiple of 16 bytes.
 pub struct Converter {
-    pub registers: [u8; 24],
-    pub owners: [u8; 8],
-    pub latest: [u8; 27],
+    pub registers: [u8; registers::COUNT],
+    pub owners: [u8; registers::CHANNELS],
+    pub latest: [u8; frame::LENGTH],
     pub output: Output,
     pub continuous: bool,
     pub standby: bool,
     pub converting: bool,
-    pub shifting: [u8; 27],
+    pub shifting: [u8; frame::LENGTH],
     pub phase: Phase,
 }
 

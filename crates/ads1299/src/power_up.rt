@@ -8,7 +8,7 @@ use protocol::Phase;
 
 impl Converter {
     // The registers' power-up values; the ID's is given.
-    pub const POWER_UP: [u8; 24] = [
+    pub const POWER_UP: [u8; registers::COUNT] = [
         0x00,
         0x96,
         0xC0,
@@ -36,7 +36,7 @@ impl Converter {
     ];
 
     // The bits that a write changes.
-    pub const MASK: [u8; 24] = [
+    pub const MASK: [u8; registers::COUNT] = [
         0x00,
         0x67,
         0x17,
@@ -71,7 +71,7 @@ impl Converter {
     }
 
     // The power-up state with an ID and owners: what RESET comes back to as well.
-    pub(crate) fn restore(id: u8, owners: [u8; 8]) -> Converter
+    pub(crate) fn restore(id: u8, owners: [u8; registers::CHANNELS]) -> Converter
         ensures { λ r. ⌜ r ≡ restored id owners ⌝ }
     {
         let mut registers = Self::POWER_UP;
@@ -79,12 +79,12 @@ impl Converter {
         Converter {
             registers,
             owners,
-            latest: [0; 27],
+            latest: [0; frame::LENGTH],
             output: Output::Empty,
             continuous: true,
             standby: false,
             converting: false,
-            shifting: [0; 27],
+            shifting: [0; frame::LENGTH],
             phase: Phase::Waiting,
         }
     }
@@ -92,7 +92,7 @@ impl Converter {
     pub fn power_up(id: u8) -> PoweredUp
         ensures { λ r. ⌜ r ≡ poweredUp id ⌝ }
     {
-        let owners = [crate::ADMIN; 8];
+        let owners = [crate::ADMIN; registers::CHANNELS];
         if Self::is_valid_id(id) {
             let converter = Self::restore(id, owners);
             PoweredUp {

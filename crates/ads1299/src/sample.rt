@@ -44,7 +44,7 @@ impl Converter {
         }
     }
 
-    fn with_status(registers: [u8; 24], p: u8, n: u8) -> [u8; 24]
+    fn with_status(registers: [u8; registers::COUNT], p: u8, n: u8) -> [u8; registers::COUNT]
         ensures { λ r. ⌜ r ≡ withStatus registers p n ⌝ }
     {
         let mut next = registers;
@@ -53,7 +53,7 @@ impl Converter {
         next
     }
 
-    fn with_frame(self, frame: [u8; 27]) -> Converter
+    fn with_frame(self, frame: [u8; frame::LENGTH]) -> Converter
         ensures { λ r. ⌜ r ≡ framed self frame ⌝ }
     {
         if self.continuous {

@@ -19,7 +19,7 @@ use protocol::Transfer;
 
 impl Converter {
     // What stands at an address: 0 above the last register.
-    fn register(registers: [u8; 24], address: u8) -> u8
+    fn register(registers: [u8; registers::COUNT], address: u8) -> u8
         ensures { λ r. ⌜ r ≡ registerAt registers address ⌝ }
     {
         let at = address as usize;
@@ -31,7 +31,7 @@ impl Converter {
     }
 
     // The registers after a write through the mask: dropped above the last register.
-    fn write(registers: [u8; 24], address: u8, byte: u8) -> [u8; 24]
+    fn write(registers: [u8; registers::COUNT], address: u8, byte: u8) -> [u8; registers::COUNT]
         ensures { λ r. ⌜ r ≡ written registers address byte ⌝ }
     {
         let mut next = registers;

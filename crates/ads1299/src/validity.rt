@@ -6,11 +6,11 @@ use crate::Converter;
 use protocol::Output;
 
 impl Converter {
-    fn are_known(owners: [u8; 8]) -> bool
+    fn are_known(owners: [u8; registers::CHANNELS]) -> bool
         ensures { λ r. ⌜ r ≡ knownOwners owners ⌝ }
     {
         let mut i: usize = 0;
-        while i < 8 {
+        while i < registers::CHANNELS {
             if crate::LARGEST_PARTY < owners[i] {
                 return false;
             }

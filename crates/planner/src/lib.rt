@@ -42,7 +42,7 @@ fn is_known_party(party: u32) -> bool
 }
 
 // The owner of a channel field is the channel's, that of a shared field the administrator.
-fn field_owner(owners: [u8; 8], field: u32, channel: u32) -> u8
+fn field_owner(owners: [u8; registers::CHANNELS], field: u32, channel: u32) -> u8
     requires { ⌜ isChannel field channel ≡ true ⌝ }
     ensures { λ r. ⌜ r ≡ fieldOwner owners field channel ⌝ }
 {
@@ -55,7 +55,7 @@ fn field_owner(owners: [u8; 8], field: u32, channel: u32) -> u8
 }
 
 // The party is the field's owner; compared whole, and never cut to a byte before.
-fn is_field_owner(owners: [u8; 8], party: u32, field: u32, channel: u32) -> bool
+fn is_field_owner(owners: [u8; registers::CHANNELS], party: u32, field: u32, channel: u32) -> bool
     requires { ⌜ isChannel field channel ≡ true ⌝ }
     ensures { λ r. ⌜ r ≡ eqb party (fieldOwner owners field channel) ⌝ }
 {

@@ -1,15 +1,16 @@
 -- The output: the frame that is being shifted out, with its place.
-use Prim.Native.Nat.{ℕ, _+_}
+use Prim.Native.Nat.{ℕ, _+_, _-_}
 use mathlib.Core.Bool.{Bool, true, false, cond}
 use mathlib.Core.List.{List}
 use lib.Dec.{ltb, leb}
 use lib.ListN.{getD}
+use Rattle.frame.specs.Frame.{frameLength}
 use Rattle.protocol.specs.declared.Output.{Output}
 use Rattle.protocol.specs.declared.Output.the-variants.{Empty, At}
 
 -- the place of a frame's last byte, from 0
 abbrev pub lastPlace : ℕ
-lastPlace = 26
+lastPlace = frameLength - 1
 
 -- nothing is pending
 abbrev pub isEmpty : Output → Bool

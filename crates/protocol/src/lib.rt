@@ -25,6 +25,18 @@ pub const RREG: u8 = 0x20;
 
 pub const WREG: u8 = 0x40;
 
+// The largest first address, and the largest second byte.
+const LAST_ADDRESS: u8 = 31;
+
+// The most registers that a transfer can have.
+const MOST_REGISTERS: u8 = 32;
+
+// A transfer's next address and the registers left come to this at most.
+const FURTHEST: u8 = LAST_ADDRESS + MOST_REGISTERS;
+
+// The place of a frame's last byte, from 0.
+const LAST_PLACE: u8 = 26;
+
 // What a byte means while the converter waits.
 pub enum Command {
     Wakeup,
@@ -149,10 +161,10 @@ fn is_countable(transfer: Transfer) -> bool
     if transfer.remaining == 0 {
         return false;
     }
-    if 32 < transfer.remaining {
+    if MOST_REGISTERS < transfer.remaining {
         return false;
     }
-    transfer.address <= 63 - transfer.remaining
+    transfer.address <= FURTHEST - transfer.remaining
 }
 
 // Whether a converter can stand so in a command, given whether one may stand half given.
@@ -163,7 +175,7 @@ pub fn is_valid_phase(phase: Phase, interruptible: bool) -> bool
         Phase::Waiting => true,
         Phase::Held(transfer) => {
             if interruptible {
-                transfer.address <= 31
+                transfer.address <= LAST_ADDRESS
             } else {
                 false
             }
@@ -183,7 +195,7 @@ pub fn begin(transfer: Transfer, byte: u8) -> Phase
     ensures { λ r. ⌜ r ≡ begun transfer byte ⌝ }
 {
     let direction = transfer.direction;
-    if byte <= 31 {
+    if byte <= LAST_ADDRESS {
         Phase::Counting(Transfer {
             direction,
             address: transfer.address,
@@ -200,19 +212,19 @@ pub fn is_valid_place(output: Output) -> bool
 {
     match output {
         Output::Empty => true,
-        Output::At(place) => place <= 26,
+        Output::At(place) => place <= LAST_PLACE,
     }
 }
 
 // The next output byte, or 0.
-pub fn pending_byte(output: Output, frame: [u8; 27]) -> u8
+pub fn pending_byte(output: Output, frame: [u8; frame::LENGTH]) -> u8
     ensures { λ r. ⌜ r ≡ pending output frame ⌝ }
 {
     match output {
         Output::Empty => 0,
         Output::At(place) => {
             let at = place as usize;
-            if at < 27 { frame[at] } else { 0 }
+            if at < frame::LENGTH { frame[at] } else { 0 }
         }
     }
 }
@@ -224,7 +236,7 @@ pub fn advance(output: Output, again: bool) -> Output
     match output {
         Output::Empty => Output::Empty,
         Output::At(place) => {
-            if place < 26 {
+            if place < LAST_PLACE {
                 Output::At(place + 1)
             } else if again {
                 Output::At(0)

@@ -192,7 +192,7 @@ fn is_settable(field: u32, channel: u32, value: u32) -> bool
 }
 
 // The field's value; 0 where nothing is named.
-pub fn read(registers: [u8; 24], field: u32, channel: u32) -> u8
+pub fn read(registers: [u8; registers::COUNT], field: u32, channel: u32) -> u8
     ensures { λ r. ⌜ r ≡ fieldOf registers field channel ⌝ }
 {
     let place = locate(field, channel);
@@ -201,7 +201,7 @@ pub fn read(registers: [u8; 24], field: u32, channel: u32) -> u8
 }
 
 // The field's register as it stands with the value in the field; 0 where nothing is named or the value does not fit.
-pub fn new_byte(registers: [u8; 24], field: u32, channel: u32, value: u32) -> u8
+pub fn new_byte(registers: [u8; registers::COUNT], field: u32, channel: u32, value: u32) -> u8
     ensures { λ r. ⌜ r ≡ fieldByte registers field channel value ⌝ }
 {
     if is_settable(field, channel, value) {
@@ -215,7 +215,12 @@ pub fn new_byte(registers: [u8; 24], field: u32, channel: u32, value: u32) -> u8
 }
 
 // The registers with the value in the field; as they stand where nothing is named or the value does not fit.
-pub fn write(registers: [u8; 24], field: u32, channel: u32, value: u32) -> [u8; 24]
+pub fn write(
+    registers: [u8; registers::COUNT],
+    field: u32,
+    channel: u32,
+    value: u32,
+) -> [u8; registers::COUNT]
     ensures { λ r. ⌜ r ≡ withField registers field channel value ⌝ }
 {
     if is_settable(field, channel, value) {
