@@ -1,0 +1,4 @@
+// The program, on the whole case of document 01.
+fn main() {
+    terminal::run();
+}

@@ -1,0 +1,4 @@
+// The program on 4,096 bytes, which are taken.
+fn main() {
+    terminal::run();
+}

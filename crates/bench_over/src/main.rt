@@ -1,0 +1,4 @@
+// The program on 4,097 bytes, which are refused whole.
+fn main() {
+    terminal::run();
+}

@@ -1,0 +1,4 @@
+// The program on a party and no request: nothing is printed.
+fn main() {
+    terminal::run();
+}

@@ -1,0 +1,5 @@
+pub mod Codes
+pub mod Flat
+pub mod States
+pub mod Answers
+pub mod Claims

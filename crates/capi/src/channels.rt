@@ -1,0 +1,98 @@
+// Grants and readings.
+ghost use mathlib.Core.Path.{_≡_};
+ghost use Rattle.access.specs.Grant.{granted};
+ghost use Rattle.access.specs.Reading.{channelReading};
+ghost use Rattle.capi.specs.States.{stateOf};
+ghost use Rattle.capi.specs.Answers.{movedFrom, readingFrom, channelPart, noPart, partFrom};
+use super::flat;
+use crate::FlatConverter;
+use crate::FlatMoved;
+use crate::FlatPart;
+use crate::FlatReading;
+use ads1299::Converter;
+
+#[no_mangle]
+pub extern "C" fn rimevelvet_grant(
+    state: FlatConverter,
+    caller: u32,
+    receiver: u32,
+    channel: u32,
+) -> FlatMoved
+    ensures { λ r. ⌜ r ≡ movedFrom state (granted (stateOf state) caller receiver channel) ⌝ }
+{
+    if flat::is_state(state) {
+        let before = flat::state_of(state);
+        flat::flatten_moved(access::grant(before, caller, receiver, channel))
+    } else {
+        flat::reject(state)
+    }
+}
+
+#[no_mangle]
+pub extern "C" fn rimevelvet_read_channel(
+    state: FlatConverter,
+    party: u32,
+    channel: u32,
+    frame: &[u8],
+) -> FlatReading
+    ensures { λ r. ⌜ r ≡ readingFrom state (channelReading (stateOf state) party channel (now (frame .entry))) ⌝ }
+{
+    if flat::is_state(state) {
+        let reading = access::read_channel(flat::state_of(state), party, channel, frame);
+        FlatReading {
+            refusal: reading.refusal,
+            p: flat::flag_code(reading.p),
+            n: flat::flag_code(reading.n),
+            code: reading.code,
+        }
+    } else {
+        FlatReading {
+            refusal: refusal::INVALID_STATE,
+            p: 0,
+            n: 0,
+            code: 0,
+        }
+    }
+}
+
+fn refuse_part(number: u8) -> FlatPart
+    ensures { λ r. ⌜ r ≡ noPart number ⌝ }
+{
+    FlatPart {
+        refusal: number,
+        start: 0,
+        length: 0,
+    }
+}
+
+// Where the part that access::channel_bytes hands back lies in the frame.
+fn locate_part(converter: Converter, party: u32, channel: u32, frame: &[u8]) -> FlatPart
+    ensures { λ r. ⌜ r ≡ channelPart converter party channel (now (frame .entry)) ⌝ }
+{
+    let reading = access::read_channel(converter, party, channel, frame);
+    if reading.refusal == refusal::NONE {
+        FlatPart {
+            refusal: refusal::NONE,
+            start: 3 * channel as usize,
+            length: access::channel_bytes(converter, party, channel, frame).len(),
+        }
+    } else {
+        refuse_part(reading.refusal)
+    }
+}
+
+#[no_mangle]
+pub extern "C" fn rimevelvet_channel_bytes(
+    state: FlatConverter,
+    party: u32,
+    channel: u32,
+    frame: &[u8],
+) -> FlatPart
+    ensures { λ r. ⌜ r ≡ partFrom state (channelPart (stateOf state) party channel (now (frame .entry))) ⌝ }
+{
+    if flat::is_state(state) {
+        locate_part(flat::state_of(state), party, channel, frame)
+    } else {
+        refuse_part(refusal::INVALID_STATE)
+    }
+}

@@ -1,0 +1,69 @@
+// The converter's entry points: power-up, a byte, a select rise and a sample.
+ghost use mathlib.Core.Path.{_≡_};
+ghost use Rattle.ads1299.specs.PowerUp.{poweredUp};
+ghost use Rattle.ads1299.specs.Step.{stepped};
+ghost use Rattle.ads1299.specs.Deselect.{deselected};
+ghost use Rattle.ads1299.specs.Sample.{sampled};
+ghost use Rattle.capi.specs.States.{stateOf};
+ghost use Rattle.capi.specs.Answers.{flatPoweredUp, steppedFrom, movedFrom};
+use super::flat;
+use crate::FlatConverter;
+use crate::FlatMoved;
+use crate::FlatPoweredUp;
+use crate::FlatStepped;
+use ads1299::Converter;
+
+#[no_mangle]
+pub extern "C" fn rimevelvet_power_up(id: u8) -> FlatPoweredUp
+    ensures { λ r. ⌜ r ≡ flatPoweredUp (poweredUp id) ⌝ }
+{
+    let powered = Converter::power_up(id);
+    let converter = powered.converter;
+    FlatPoweredUp {
+        refusal: powered.refusal,
+        converter: flat::flatten(converter),
+    }
+}
+
+#[no_mangle]
+pub extern "C" fn rimevelvet_step(state: FlatConverter, byte: u8) -> FlatStepped
+    ensures { λ r. ⌜ r ≡ steppedFrom state (stepped (stateOf state) byte) ⌝ }
+{
+    if flat::is_state(state) {
+        let stepped = flat::state_of(state).step(byte);
+        let next = stepped.next;
+        FlatStepped {
+            refusal: stepped.refusal,
+            out: stepped.out,
+            next: flat::flatten(next),
+        }
+    } else {
+        FlatStepped {
+            refusal: refusal::INVALID_STATE,
+            out: 0,
+            next: state,
+        }
+    }
+}
+
+#[no_mangle]
+pub extern "C" fn rimevelvet_deselect(state: FlatConverter) -> FlatMoved
+    ensures { λ r. ⌜ r ≡ movedFrom state (deselected (stateOf state)) ⌝ }
+{
+    if flat::is_state(state) {
+        flat::flatten_moved(flat::state_of(state).deselect())
+    } else {
+        flat::reject(state)
+    }
+}
+
+#[no_mangle]
+pub extern "C" fn rimevelvet_sample(state: FlatConverter, codes: &[i32], p: u8, n: u8) -> FlatMoved
+    ensures { λ r. ⌜ r ≡ movedFrom state (sampled (stateOf state) (now (codes .entry)) p n) ⌝ }
+{
+    if flat::is_state(state) {
+        flat::flatten_moved(flat::state_of(state).sample(codes, p, n))
+    } else {
+        flat::reject(state)
+    }
+}

@@ -1,0 +1,90 @@
+// Setting requests: read, written and planned.
+ghost use mathlib.Core.Path.{_≡_};
+ghost use Rattle.request.specs.Requests.{request};
+ghost use Rattle.request.specs.Reading.{parsed};
+ghost use Rattle.request.specs.Writing.{written, bufferAfter};
+ghost use Rattle.planner.specs.Submission.{submission};
+ghost use Rattle.planner.specs.Planned.{planned};
+ghost use Rattle.planner.specs.Buffer.{txAfter};
+ghost use Rattle.capi.specs.States.{stateOf};
+ghost use Rattle.capi.specs.Answers.{flatParsed, flatWritten, plannedFrom, bufferFrom};
+use super::flat;
+use crate::FlatConverter;
+use crate::FlatParsed;
+use crate::FlatPlanned;
+use crate::FlatWritten;
+use request::Request;
+
+#[no_mangle]
+pub extern "C" fn rimevelvet_request_read(bytes: &[u8]) -> FlatParsed
+    ensures { λ r. ⌜ r ≡ flatParsed (parsed (now (bytes .entry))) ⌝ }
+{
+    let parsed = request::read(bytes);
+    let request = parsed.request;
+    FlatParsed {
+        refusal: parsed.refusal,
+        field: request.field,
+        channel: request.channel,
+        value: request.value,
+        used: parsed.used,
+    }
+}
+
+#[no_mangle]
+pub extern "C" fn rimevelvet_request_write(
+    field: u32,
+    channel: u32,
+    value: u32,
+    buffer: &mut [u8],
+) -> FlatWritten
+    ensures { λ r. ⌜ (r ≡ flatWritten (written (request field channel value) (now (buffer .entry))))
+        × (now (buffer .exit) ≡ bufferAfter (request field channel value) (now (buffer .entry))) ⌝ }
+{
+    let request = Request {
+        field,
+        channel,
+        value,
+    };
+    let written = request::write(request, buffer);
+    FlatWritten {
+        refusal: written.refusal,
+        used: written.used,
+    }
+}
+
+// Plans a request by way of the live form, on a copy of the state.
+#[no_mangle]
+pub extern "C" fn rimevelvet_plan(
+    state: FlatConverter,
+    party: u32,
+    field: u32,
+    channel: u32,
+    value: u32,
+    tx: &mut [u8],
+    at: usize,
+) -> FlatPlanned
+    ensures { λ r. ⌜ (r ≡ plannedFrom state (planned (stateOf state) (submission party (request field channel value) (now (tx .entry)) at)))
+        × (now (tx .exit) ≡ bufferFrom state (txAfter (stateOf state) (submission party (request field channel value) (now (tx .entry)) at) (now (tx .entry)) at) (now (tx .entry))) ⌝ }
+{
+    if flat::is_state(state) {
+        let before = flat::state_of(state);
+        let request = Request {
+            field,
+            channel,
+            value,
+        };
+        let planned = planner::plan_borrowed(before, party, request, tx, at);
+        let next = planned.next;
+        FlatPlanned {
+            refusal: planned.refusal,
+            length: planned.length,
+            next: flat::flatten(next),
+        }
+    } else {
+        FlatPlanned {
+            refusal: refusal::INVALID_STATE,
+            length: 0,
+            next: state,
+        }
+    }
+}

@@ -1,0 +1,26 @@
+-- One claim about all the figures, by computation. Assumes nothing.
+use mathlib.Core.Path.{refl}
+use Rattle.bits.specs.Fields.{field, inserted}
+use Rattle.leb128.specs.Decoding.{decoded}
+use Rattle.request.specs.Reading.{readRefusal, parsed}
+use Rattle.ads1299.specs.Registers.{powerUp}
+use Rattle.ads1299.specs.PowerUp.{validId, restored, poweredUp}
+use Rattle.ads1299.specs.Validity.{validConverter, valid}
+use Rattle.access.specs.Parties.{knownParty, ownerOf}
+use Rattle.settings.specs.Table.{table, rowOf}
+use Rattle.settings.specs.Names.{named}
+use Rattle.settings.specs.Places.{place}
+use Rattle.settings.specs.Values.{fits, legal, settable}
+use Rattle.settings.specs.Registers.{readAt, writeAt, fieldOf, fieldByte, withField}
+use Rattle.planner.specs.Refusals.{judged}
+use Rattle.planner.specs.Plan.{planOf}
+use Rattle.planner.specs.Planned.{refusalOf, changed, plan, planned}
+use Rattle.console.specs.Text.{decimal, hex, hexes}
+use Rattle.console.specs.Line.{line}
+use Rattle.console.specs.Turn.{fresh, printed, nextState, consumed}
+use Rattle.console.specs.Transcript.{lines, session, transcriptOf}
+use Rattle.console.specs.Figures.{figures, FiguresHold}
+
+pub figures-hold : FiguresHold
+unfolding figures field inserted decoded readRefusal parsed powerUp validId restored poweredUp validConverter valid knownParty ownerOf table rowOf named place fits legal settable readAt writeAt fieldOf fieldByte withField judged planOf refusalOf changed plan planned decimal hex hexes line fresh printed nextState consumed lines session transcriptOf
+figures-hold = refl

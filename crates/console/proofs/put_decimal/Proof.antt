@@ -1,0 +1,32 @@
+use borrow.Author.Needs.{needs}
+use mathlib.Core.Path.{refl, ap, _∙_, sym}
+use mathlib.Core.List.{List}
+use native.Mathlib.Omega.{arith}
+use Prim.Native.Nat.{ℕ}
+use lib.ListN.{length, length-set}
+use lib.Seq.{sets}
+use Rattle.console.proofs.Storing.{two}
+use Rattle.console.proofs.Texts.{one-digit, two-digits}
+use Rattle.console.proofs.put_decimal.Statement.{statement}
+use Rattle.console.proofs.put_decimal.Tie as tie
+
+pub put-decimal-spec : {M : Type 1} → statement M
+put-decimal-spec =
+    tie.close
+    (tie.spec
+    (λ c. search needs)
+    (λ c. let e = one-digit (c .before .args .number) (c .if1 .taken) in omega (arith, ap length e))
+    (λ c. search needs)
+    (λ c. search needs)
+    (λ c. let e = two-digits (c .before .args .number) (c .if1 .left) in omega (arith, ap length e))
+    (λ c. search needs)
+    (λ c. search needs)
+    (λ c. let e = two-digits (c .before .args .number) (c .if1 .left) in simp length-set (omega (arith, ap length e)))
+    (λ c. search needs)
+    (λ c. search needs)
+    (λ c. let e = one-digit (c .before .args .number) (c .if1 .taken) in rw e (refl, refl))
+    (λ c. search needs)
+    (λ c.
+    let a = c .before .args in
+    let e = two-digits (a .number) (c .if1 .left) in
+    (rw e, two (a .out .now) (a .at) _ _ ∙ ap (λ (l : List ℕ). sets (a .out .now) (a .at) l) (sym e))))

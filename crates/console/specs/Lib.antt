@@ -1,0 +1,6 @@
+pub mod Text
+pub mod Line
+pub mod Turn
+pub mod Transcript
+pub mod Claims
+pub mod Figures

@@ -1,0 +1,123 @@
+/*
+ * The figures of document 01, by way of C. From the repository's root:
+ *
+ *     rt staticlib capi
+ *     gcc -std=c11 -Wall -Wextra -Iinclude examples/c/figures.c target/staticlib/libcapi.a -o target/figures
+ *     target/figures | diff - examples/c/figures.txt
+ */
+#include "rimevelvet.h"
+
+#include <stdio.h>
+#include <string.h>
+
+static void print_bytes(const char *name, const uint8_t *bytes, size_t length)
+{
+    printf("%s:", name);
+    for (size_t i = 0; i < length; i++)
+        printf(" %02X", (unsigned)bytes[i]);
+    printf("\n");
+}
+
+/* Sends bytes, keeps what came out, and gives the state after them. */
+static rimevelvet_converter send(rimevelvet_converter state, const uint8_t *bytes, size_t length, uint8_t *out)
+{
+    for (size_t i = 0; i < length; i++) {
+        rimevelvet_stepped stepped = rimevelvet_step(state, bytes[i]);
+        out[i] = stepped.out;
+        state = stepped.next;
+    }
+    return state;
+}
+
+static void print_plan(const char *name, rimevelvet_converter state, uint32_t party, uint32_t field, uint32_t channel, uint32_t value,
+                       size_t room)
+{
+    uint8_t tx[8] = {0};
+    rimevelvet_planned planned = rimevelvet_plan(state, party, field, channel, value, tx, room, 0);
+    if (planned.refusal == RIMEVELVET_NONE)
+        print_bytes(name, tx, planned.length);
+    else
+        printf("%s: refused %u\n", name, (unsigned)planned.refusal);
+}
+
+static void plans(rimevelvet_converter fresh)
+{
+    rimevelvet_converter owned = rimevelvet_grant(fresh, 0, 1, 3).next;
+    uint8_t out[1];
+    rimevelvet_converter command = send(owned, (const uint8_t[]){0x11}, 1, out);
+    print_plan("gain 4 for channel 3, continuous", owned, 1, 2, 3, 4, 8);
+    print_plan("the same in command mode", command, 1, 2, 3, 4, 8);
+    print_plan("in standby and command mode", send(command, (const uint8_t[]){0x04}, 1, out), 1, 2, 3, 4, 8);
+    rimevelvet_converter standby = send(owned, (const uint8_t[]){0x04}, 1, out);
+    print_plan("in standby and continuous", standby, 1, 2, 3, 4, 8);
+    print_plan("the same with room for 6", standby, 1, 2, 3, 4, 6);
+    command.registers[0x0D] = 0x12;
+    print_plan("field 5 for channel 3, BIAS_SENSP 12", command, 1, 5, 3, 1, 8);
+    print_plan("party 2 on party 1's channel", command, 2, 2, 3, 4, 8);
+    print_plan("party 9", command, 9, 2, 3, 4, 8);
+    print_plan("data rate 6", command, 0, 12, 0, 6, 8);
+    print_plan("data rate 7", command, 0, 12, 0, 7, 8);
+}
+
+static void bytes_sent(rimevelvet_converter fresh)
+{
+    uint8_t out[4];
+    rimevelvet_converter command = send(fresh, (const uint8_t[]){0x11}, 1, out);
+    rimevelvet_converter written = send(command, (const uint8_t[]){0x41, 0x00, 0xFF}, 3, out);
+    print_bytes("CONFIG1 after 41 00 FF", written.registers + 1, 1);
+    send(command, (const uint8_t[]){0x20, 0x01, 0x00, 0x00}, 4, out);
+    print_bytes("out of 20 01 00 00", out, 4);
+    rimevelvet_converter reset = send(rimevelvet_grant(fresh, 0, 1, 3).next, (const uint8_t[]){0x08, 0x45, 0x00, 0x06}, 4, out);
+    printf("converting after 45 00 06 in continuous mode: %u, owner kept: %u\n", (unsigned)reset.converting, (unsigned)reset.owners[2]);
+    rimevelvet_converter held = send(command, (const uint8_t[]){0x41}, 1, out);
+    printf("phase after 41: %u, after the select line rises: %u\n", (unsigned)held.phase, (unsigned)rimevelvet_deselect(held).next.phase);
+}
+
+static void readings(rimevelvet_converter fresh)
+{
+    const int32_t codes[8] = {8388607, -8388608, -1, 0, 1, 2, 3, 4};
+    uint8_t out[1];
+    printf("a sample while stopped: refused %u\n", (unsigned)rimevelvet_sample(fresh, codes, 8, 0x01, 0x80).refusal);
+    rimevelvet_converter state = rimevelvet_sample(send(fresh, (const uint8_t[]){0x08}, 1, out), codes, 8, 0x01, 0x80).next;
+    print_bytes("frame of P 01, N 80, GPIO 0F", state.latest, 3);
+    for (uint32_t channel = 1; channel <= 3; channel++) {
+        rimevelvet_part part = rimevelvet_channel_bytes(state, 0, channel, state.latest, 27);
+        print_bytes("bytes of a channel", state.latest + part.start, part.length);
+        rimevelvet_reading reading = rimevelvet_read_channel(state, 0, channel, state.latest, 27);
+        printf("code %ld, bits %u %u\n", (long)reading.code, (unsigned)reading.p, (unsigned)reading.n);
+    }
+    printf("a stranger's reading: refused %u\n", (unsigned)rimevelvet_read_channel(state, 1, 1, state.latest, 27).refusal);
+    printf("a frame of 26 bytes: refused %u\n", (unsigned)rimevelvet_channel_bytes(state, 0, 1, state.latest, 26).refusal);
+}
+
+static void requests(void)
+{
+    uint8_t buffer[6] = {0};
+    rimevelvet_written written = rimevelvet_request_write(2, 3, 300, buffer, sizeof buffer);
+    print_bytes("request 2 3 300", buffer, written.used);
+    rimevelvet_parsed parsed = rimevelvet_request_read(buffer, sizeof buffer);
+    printf("read back: %u %u %u, %zu bytes\n", (unsigned)parsed.field, (unsigned)parsed.channel, (unsigned)parsed.value, parsed.used);
+    printf("16,384 written: refused %u\n", (unsigned)rimevelvet_request_write(2, 3, 16384, buffer, sizeof buffer).refusal);
+    printf("83 00 read: refused %u\n", (unsigned)rimevelvet_request_read((const uint8_t[]){0x83, 0x00}, 2).refusal);
+}
+
+static void bad_states(rimevelvet_converter fresh)
+{
+    rimevelvet_converter bad = fresh;
+    bad.phase = 3;
+    rimevelvet_stepped stepped = rimevelvet_step(bad, 0x20);
+    int same = memcmp(&stepped.next, &bad, sizeof bad) == 0;
+    printf("phase 3: refused %u, out %u, same bytes: %d\n", (unsigned)stepped.refusal, (unsigned)stepped.out, same);
+    printf("ID 3F: refused %u\n", (unsigned)rimevelvet_power_up(0x3F).refusal);
+}
+
+int main(void)
+{
+    rimevelvet_converter fresh = rimevelvet_power_up(0x3E).converter;
+    plans(fresh);
+    bytes_sent(fresh);
+    readings(fresh);
+    requests();
+    bad_states(fresh);
+    return 0;
+}

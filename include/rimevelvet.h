@@ -1,0 +1,218 @@
+/*
+ * Rimevelvet: one eight-channel ADS1299 of a shared test bench, followed byte by byte, with its owners and its fields.
+ *
+ * Link libcapi.a (x86-64 Linux), which `rt staticlib capi` writes to target/staticlib/. The library keeps nothing and allocates
+ * nothing: a state goes in by value, and the next one comes back. Calls on different states may run at the same time.
+ *
+ * Every answer starts with its refusal: 0 is success. A refusal gives every other number as 0, and the state and the buffers
+ * exactly as they were given. Where a call has several refusals, they are tried in the order named.
+ *
+ * A pointer points to as many elements as the length after it says, and is never NULL, even where the length is 0.
+ * Party, field, channel and value may be any number; they are judged whole.
+ */
+#ifndef RIMEVELVET_H
+#define RIMEVELVET_H
+
+#include <stddef.h>
+#include <stdint.h>
+
+#ifdef __cplusplus
+#define RIMEVELVET_ASSERT(test, text) static_assert(test, text)
+extern "C" {
+#else
+#define RIMEVELVET_ASSERT(test, text) _Static_assert(test, text)
+#endif
+
+/* Refusals. */
+enum {
+    RIMEVELVET_NONE = 0,
+    RIMEVELVET_TRUNCATED = 1,      /* a request ends inside or before a number */
+    RIMEVELVET_MALFORMED = 2,      /* a second group is 0 or has its top bit set */
+    RIMEVELVET_UNKNOWN_PARTY = 3,  /* a party above 8 */
+    RIMEVELVET_UNKNOWN_FIELD = 4,  /* field 0 or above 26 */
+    RIMEVELVET_WRONG_CHANNEL = 5,  /* not 1 to 8; with a shared field, not 0 */
+    RIMEVELVET_NOT_OWNER = 6,      /* the party is not the owner; for a shared field or a grant, not party 0 */
+    RIMEVELVET_BAD_VALUE = 7,      /* too wide for the field, or refused there; above 16,383 in a request that is written */
+    RIMEVELVET_NOT_WAITING = 8,    /* the converter is half through a command */
+    RIMEVELVET_NO_ROOM = 9,        /* fewer bytes than the plan or the request needs */
+    RIMEVELVET_NOT_CONVERTING = 10, /* a sample while stopped or in standby */
+    RIMEVELVET_BAD_SAMPLE = 11,    /* not eight codes, or a code out of range */
+    RIMEVELVET_BAD_FRAME = 12,     /* not 27 bytes, or not starting 1100 */
+    RIMEVELVET_INVALID_STATE = 13  /* bytes that stand for no state, a state that no converter can be in, an ID not an ADS1299's */
+};
+
+/* Codes in a state. A flag is 0 or 1. */
+enum { RIMEVELVET_EMPTY = 0, RIMEVELVET_AT_PLACE = 1 };
+enum { RIMEVELVET_WAITING = 0, RIMEVELVET_HELD = 1, RIMEVELVET_COUNTING = 2 };
+enum { RIMEVELVET_READ = 0, RIMEVELVET_WRITE = 1 };
+
+/*
+ * A converter's state. Each state has exactly one such form. Bytes with a code that does not exist stand for no state, and so do
+ * an empty output with a place other than 0 and a waiting converter with a direction, address or remaining other than 0: every
+ * call refuses them by 13.
+ */
+typedef struct {
+    uint8_t registers[24]; /* by address, 00h to 17h */
+    uint8_t owners[8];     /* of channels 1 to 8: party 0 to 8 */
+    uint8_t latest[27];    /* the latest frame */
+    uint8_t output;        /* RIMEVELVET_EMPTY or RIMEVELVET_AT_PLACE: what is shifted out */
+    uint8_t place;         /* of the next byte in `shifting`, from 0; 0 while empty */
+    uint8_t continuous;    /* 1: continuous mode, 0: command mode */
+    uint8_t standby;
+    uint8_t converting;
+    uint8_t shifting[27];  /* the frame being shifted out */
+    uint8_t phase;         /* RIMEVELVET_WAITING, _HELD (first byte of a register command has come) or _COUNTING */
+    uint8_t direction;     /* RIMEVELVET_READ or RIMEVELVET_WRITE; 0 while waiting, as the two below */
+    uint8_t address;       /* the next register */
+    uint8_t remaining;     /* how many registers are left */
+} rimevelvet_converter;
+
+/* What power-up answers. */
+typedef struct {
+    uint8_t refusal;
+    rimevelvet_converter converter;
+} rimevelvet_powered_up;
+
+/* What a byte is answered: the byte that went out, and the state after it. */
+typedef struct {
+    uint8_t refusal;
+    uint8_t out;
+    rimevelvet_converter next;
+} rimevelvet_stepped;
+
+/* What a select rise, a sample and a grant answer. */
+typedef struct {
+    uint8_t refusal;
+    rimevelvet_converter next;
+} rimevelvet_moved;
+
+/* A channel's code and its lead-off bits, 0 or 1. */
+typedef struct {
+    uint8_t refusal;
+    uint8_t p;
+    uint8_t n;
+    int32_t code;
+} rimevelvet_reading;
+
+/* A part of the caller's frame: `length` bytes from `frame + start` on. */
+typedef struct {
+    uint8_t refusal;
+    size_t start;
+    size_t length;
+} rimevelvet_part;
+
+/* A request that was read, and how many bytes it took. */
+typedef struct {
+    uint8_t refusal;
+    uint32_t field;
+    uint32_t channel;
+    uint32_t value;
+    size_t used;
+} rimevelvet_parsed;
+
+/* How many bytes were written. */
+typedef struct {
+    uint8_t refusal;
+    size_t used;
+} rimevelvet_written;
+
+/* The plan's length, and the state after the plan: its bytes are not to be fed to that state again. */
+typedef struct {
+    uint8_t refusal;
+    size_t length;
+    rimevelvet_converter next;
+} rimevelvet_planned;
+
+RIMEVELVET_ASSERT(sizeof(size_t) == 8, "a 64-bit machine");
+RIMEVELVET_ASSERT(sizeof(rimevelvet_converter) == 95, "bytes alone, with no gap");
+RIMEVELVET_ASSERT(offsetof(rimevelvet_converter, output) == 59, "output after the latest frame");
+RIMEVELVET_ASSERT(offsetof(rimevelvet_converter, shifting) == 64, "shifting after the flags");
+RIMEVELVET_ASSERT(offsetof(rimevelvet_converter, phase) == 91, "phase after shifting");
+RIMEVELVET_ASSERT(sizeof(rimevelvet_powered_up) == 96, "a byte and a state");
+RIMEVELVET_ASSERT(sizeof(rimevelvet_stepped) == 97, "two bytes and a state");
+RIMEVELVET_ASSERT(sizeof(rimevelvet_moved) == 96, "a byte and a state");
+RIMEVELVET_ASSERT(sizeof(rimevelvet_reading) == 8, "three bytes and a code");
+RIMEVELVET_ASSERT(sizeof(rimevelvet_part) == 24, "a byte and two sizes");
+RIMEVELVET_ASSERT(sizeof(rimevelvet_parsed) == 24, "a byte, three numbers and a size");
+RIMEVELVET_ASSERT(sizeof(rimevelvet_written) == 16, "a byte and a size");
+RIMEVELVET_ASSERT(sizeof(rimevelvet_planned) == 112, "a byte, a size and a state");
+
+/*
+ * A fresh converter with this ID, all channels owned by party 0.
+ * Refusal: 13 (the ID's low five bits are not 1Eh); then the power-up state with ID 00 comes back.
+ */
+rimevelvet_powered_up rimevelvet_power_up(uint8_t id);
+
+/*
+ * Takes a byte in and gives one out. The byte out is fixed before the byte in is acted on.
+ * Refusal: 13; then `out` is 0 and the same state comes back.
+ */
+rimevelvet_stepped rimevelvet_step(rimevelvet_converter state, uint8_t byte);
+
+/*
+ * The select line rises: a command half given ends, and the output is empty.
+ * Refusal: 13; then the same state comes back.
+ */
+rimevelvet_moved rimevelvet_deselect(rimevelvet_converter state);
+
+/*
+ * Takes a sample: the codes of channels 1 to 8 (codes_length is 8), each -8,388,608 to 8,388,607, and the comparator bytes.
+ * Refusals: 13, 10, 11; then the same state comes back.
+ */
+rimevelvet_moved rimevelvet_sample(rimevelvet_converter state, const int32_t *codes, size_t codes_length, uint8_t p, uint8_t n);
+
+/*
+ * Gives a channel to the receiver. Only party 0 may.
+ * Refusals: 13, 3 (caller or receiver), 5, 6; then the same state comes back.
+ */
+rimevelvet_moved rimevelvet_grant(rimevelvet_converter state, uint32_t caller, uint32_t receiver, uint32_t channel);
+
+/*
+ * Reads a channel from a frame, for its owner alone.
+ * Refusals: 13, 3, 5, 6, 12; then code and bits are 0.
+ */
+rimevelvet_reading rimevelvet_read_channel(rimevelvet_converter state, uint32_t party, uint32_t channel, const uint8_t *frame,
+                                           size_t frame_length);
+
+/*
+ * Where the channel's three bytes lie in the caller's own frame.
+ * Refusals: those of rimevelvet_read_channel; then start and length are 0.
+ */
+rimevelvet_part rimevelvet_channel_bytes(rimevelvet_converter state, uint32_t party, uint32_t channel, const uint8_t *frame,
+                                         size_t frame_length);
+
+/*
+ * Reads the request that the bytes start with. Bytes after it are not looked at.
+ * Refusals: 1, 2, whichever fault comes first; then all numbers are 0.
+ */
+rimevelvet_parsed rimevelvet_request_read(const uint8_t *bytes, size_t bytes_length);
+
+/*
+ * Writes a request to the buffer's start. Bytes after it stay.
+ * Refusals: 7 (a number above 16,383), 9; then used is 0 and the buffer is as it was.
+ */
+rimevelvet_written rimevelvet_request_write(uint32_t field, uint32_t channel, uint32_t value, uint8_t *buffer, size_t buffer_length);
+
+/*
+ * Plans a party's request: the bytes for the converter go into the transmit buffer from place `at` on, and all else there stays.
+ * Refusals: 13, 3, 4, 5, 6, 7, 8, 9; then length is 0, and the state and the buffer are as they were.
+ */
+rimevelvet_planned rimevelvet_plan(rimevelvet_converter state, uint32_t party, uint32_t field, uint32_t channel, uint32_t value,
+                                   uint8_t *tx, size_t tx_length, size_t at);
+
+/* The room that a transcript needs, however long the input is. */
+#define RIMEVELVET_LONGEST_TRANSCRIPT 31395
+
+/*
+ * Writes what the program prints for an input to the start of `out`, which has RIMEVELVET_LONGEST_TRANSCRIPT bytes, and gives its
+ * length. Bytes after it stay. Input above 4,096 bytes prints 14.
+ */
+size_t rimevelvet_transcript(const uint8_t *input, size_t input_length, uint8_t *out);
+
+#ifdef __cplusplus
+}
+#endif
+
+#undef RIMEVELVET_ASSERT
+
+#endif

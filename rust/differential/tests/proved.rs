@@ -1,0 +1,49 @@
+//! The proved library against the independent model, and on its own.
+
+use differential::{flat, Proved};
+use harness::random::Random;
+use harness::{figure_tests, settings, states};
+
+figure_tests! { Proved }
+
+/// Every answer, buffer and state of all entry points, after every call; demand 3; the laws.
+#[test]
+fn library_and_model_agree() {
+    let calls = settings::calls();
+    let stats = harness::check_all(&Proved, calls, settings::seed());
+    settings::say(&format!("library against model: {stats}"));
+    assert_eq!(stats.calls, calls);
+}
+
+/// Bytes that stand for no state are refused by 13 and handed back as they came.
+#[test]
+fn bytes_of_no_state_are_refused() {
+    let mut random = Random::new(settings::seed());
+    for _ in 0..2_000 {
+        let sound = flat(states::valid(&mut random));
+        for spoil in 0..9 {
+            let mut s = sound;
+            match spoil {
+                0 => s.output = 2,
+                1 => s.continuous = 2,
+                2 => s.standby = 255,
+                3 => s.converting = 2,
+                4 => s.phase = 3,
+                5 => (s.phase, s.direction) = (1, 2),
+                6 => (s.output, s.place) = (0, 1),
+                7 => (s.phase, s.direction) = (0, 1),
+                _ => (s.phase, s.remaining) = (0, 1),
+            }
+            let stepped = rimevelvet::step(s, random.byte());
+            assert_eq!((stepped.refusal, stepped.out, stepped.next), (13, 0, s));
+            let moved = rimevelvet::deselect(s);
+            assert_eq!((moved.refusal, moved.next), (13, s));
+            let mut tx = [0xAA; 8];
+            let planned = rimevelvet::plan(s, 0, 2, 3, 4, &mut tx, 0);
+            assert_eq!(
+                (planned.refusal, planned.length, planned.next, tx),
+                (13, 0, s, [0xAA; 8])
+            );
+        }
+    }
+}

@@ -1,0 +1,638 @@
+//! Random calls of every entry point, biased to the edges of the rules.
+
+use std::collections::VecDeque;
+
+use crate::random::Random;
+use crate::{cells, states, Bench, Converter, Phase};
+
+#[derive(Clone, Debug, PartialEq, Eq)]
+pub enum Call {
+    PowerUp {
+        id: u8,
+    },
+    Step {
+        byte: u8,
+    },
+    Deselect,
+    Sample {
+        codes: Vec<i32>,
+        p: u8,
+        n: u8,
+    },
+    Grant {
+        caller: u32,
+        receiver: u32,
+        channel: u32,
+    },
+    ReadChannel {
+        party: u32,
+        channel: u32,
+        frame: Vec<u8>,
+    },
+    ChannelBytes {
+        party: u32,
+        channel: u32,
+        frame: Vec<u8>,
+    },
+    RequestRead {
+        bytes: Vec<u8>,
+    },
+    RequestWrite {
+        field: u32,
+        channel: u32,
+        value: u32,
+        buffer: Vec<u8>,
+    },
+    Plan {
+        party: u32,
+        field: u32,
+        channel: u32,
+        value: u32,
+        tx: Vec<u8>,
+        at: usize,
+    },
+    Console {
+        input: Vec<u8>,
+    },
+}
+
+impl Call {
+    pub fn entry(&self) -> &'static str {
+        match self {
+            Call::PowerUp { .. } => "power_up",
+            Call::Step { .. } => "step",
+            Call::Deselect => "deselect",
+            Call::Sample { .. } => "sample",
+            Call::Grant { .. } => "grant",
+            Call::ReadChannel { .. } => "read_channel",
+            Call::ChannelBytes { .. } => "channel_bytes",
+            Call::RequestRead { .. } => "request_read",
+            Call::RequestWrite { .. } => "request_write",
+            Call::Plan { .. } => "plan",
+            Call::Console { .. } => "console",
+        }
+    }
+}
+
+/// Everything a call left behind.
+#[derive(Clone, Debug, PartialEq, Eq)]
+pub struct Outcome {
+    /// `None` for entry points that answer without a number.
+    pub refusal: Option<u8>,
+    /// The other numbers of the answer, in the order of `Bench`, then zeros.
+    pub numbers: [i64; 4],
+    /// The lent buffer afterwards, or the program's output.
+    pub buffer: Vec<u8>,
+    pub state: Converter,
+}
+
+/// Makes the call on a copy of its buffer.
+pub fn perform(bench: &impl Bench, c: Converter, call: &Call) -> Outcome {
+    let mut outcome = Outcome {
+        refusal: None,
+        numbers: [0; 4],
+        buffer: Vec::new(),
+        state: c,
+    };
+    match call {
+        Call::PowerUp { id } => {
+            let (refusal, state) = bench.power_up(*id);
+            outcome.refusal = Some(refusal);
+            outcome.state = state;
+        }
+        Call::Step { byte } => {
+            let (refusal, out, state) = bench.step(c, *byte);
+            outcome.refusal = Some(refusal);
+            outcome.numbers[0] = i64::from(out);
+            outcome.state = state;
+        }
+        Call::Deselect => {
+            let (refusal, state) = bench.deselect(c);
+            outcome.refusal = Some(refusal);
+            outcome.state = state;
+        }
+        Call::Sample { codes, p, n } => {
+            let (refusal, state) = bench.sample(c, codes, *p, *n);
+            outcome.refusal = Some(refusal);
+            outcome.state = state;
+        }
+        Call::Grant {
+            caller,
+            receiver,
+            channel,
+        } => {
+            let (refusal, state) = bench.grant(c, *caller, *receiver, *channel);
+            outcome.refusal = Some(refusal);
+            outcome.state = state;
+        }
+        Call::ReadChannel {
+            party,
+            channel,
+            frame,
+        } => {
+            let (refusal, code, p, n) = bench.read_channel(c, *party, *channel, frame);
+            outcome.refusal = Some(refusal);
+            outcome.numbers = [i64::from(code), i64::from(p), i64::from(n), 0];
+        }
+        Call::ChannelBytes {
+            party,
+            channel,
+            frame,
+        } => {
+            let part = bench.channel_bytes(c, *party, *channel, frame);
+            outcome.numbers = [part.start as i64, part.end as i64, 0, 0];
+        }
+        Call::RequestRead { bytes } => {
+            let (refusal, field, channel, value, used) = bench.request_read(bytes);
+            outcome.refusal = Some(refusal);
+            outcome.numbers = [
+                i64::from(field),
+                i64::from(channel),
+                i64::from(value),
+                used as i64,
+            ];
+        }
+        Call::RequestWrite {
+            field,
+            channel,
+            value,
+            buffer,
+        } => {
+            outcome.buffer.clone_from(buffer);
+            let (refusal, used) =
+                bench.request_write(*field, *channel, *value, &mut outcome.buffer);
+            outcome.refusal = Some(refusal);
+            outcome.numbers[0] = used as i64;
+        }
+        Call::Plan {
+            party,
+            field,
+            channel,
+            value,
+            tx,
+            at,
+        } => {
+            outcome.buffer.clone_from(tx);
+            let (refusal, length, state) = bench.plan(
+                c,
+                *party,
+                *field,
+                *channel,
+                *value,
+                &mut outcome.buffer,
+                *at,
+            );
+            outcome.refusal = Some(refusal);
+            outcome.numbers[0] = length as i64;
+            outcome.state = state;
+        }
+        Call::Console { input } => outcome.buffer = bench.console(input),
+    }
+    outcome
+}
+
+/// Calls already decided on, so that long commands get finished.
+pub type Script = VecDeque<Call>;
+
+/// Command bytes, those that open up further states more than once.
+const COMMANDS: [u8; 13] = [
+    0x02, 0x02, 0x04, 0x06, 0x08, 0x08, 0x08, 0x0A, 0x10, 0x11, 0x11, 0x12, 0x12,
+];
+
+/// A byte to send, in view of where the converter stands.
+fn byte_to_send(random: &mut Random, c: &Converter) -> u8 {
+    match (c.phase, random.below(10)) {
+        (Phase::Held(_), 0..=4) => random.below(4) as u8,
+        (Phase::Held(_), 5) => random.pick(&[23, 30, 31, 32, 33]),
+        (Phase::Held(_), 6) => random.pick(&[0x20, 0x41, 0x57, 0x7F, 0x80, 0xFF]),
+        (Phase::Held(_), 7) => random.pick(&COMMANDS),
+        (Phase::Held(_), _) => random.byte(),
+        (Phase::Counting(_), 0..=1) => random.pick(&COMMANDS),
+        (Phase::Counting(_), _) => random.byte(),
+        (Phase::Waiting, 0..=1) => 0,
+        (Phase::Waiting, 2..=5) => random.pick(&COMMANDS),
+        (Phase::Waiting, 6..=7) => 0x20 | random.byte() & 0x1F,
+        (Phase::Waiting, 8) => 0x40 | random.byte() & 0x1F,
+        (Phase::Waiting, _) => random.byte(),
+    }
+}
+
+fn code(random: &mut Random) -> i32 {
+    let edges = [
+        0, 1, -1, 127, 128, -128, 32_767, -32_768, 65_535, -65_536, 8_388_607, -8_388_608,
+    ];
+    if random.chance(40) {
+        random.pick(&edges)
+    } else {
+        (random.word() as i32) >> 8
+    }
+}
+
+fn sample(random: &mut Random, c: &Converter) -> Call {
+    let count = if random.chance(93) {
+        8
+    } else {
+        random.pick(&[0, 1, 7, 9, 16])
+    };
+    let mut codes: Vec<i32> = (0..count).map(|_| code(random)).collect();
+    if count > 0 && random.chance(12) {
+        let beyond = [
+            8_388_608,
+            -8_388_609,
+            i32::MAX,
+            i32::MIN,
+            16_777_215,
+            0x0100_0000,
+        ];
+        let powered_down = (0..count.min(8)).find(|&index| c.registers[5 + index] >= 0x80);
+        let index = powered_down
+            .filter(|_| random.flag())
+            .unwrap_or(random.below(count));
+        codes[index] = random.pick(&beyond);
+    }
+    Call::Sample {
+        codes,
+        p: comparator(random),
+        n: comparator(random),
+    }
+}
+
+fn comparator(random: &mut Random) -> u8 {
+    match random.below(4) {
+        0 => 1 << random.below(8),
+        1 => random.pick(&[0x00, 0xFF, 0x0F, 0xF0]),
+        _ => random.byte(),
+    }
+}
+
+fn grant(random: &mut Random) -> Call {
+    Call::Grant {
+        caller: if random.chance(80) { 0 } else { party(random) },
+        receiver: if random.chance(85) {
+            random.between(0, 8) as u32
+        } else {
+            party(random)
+        },
+        channel: if random.chance(85) {
+            random.between(1, 8) as u32
+        } else {
+            random.edge(1, 8)
+        },
+    }
+}
+
+fn party(random: &mut Random) -> u32 {
+    if random.chance(60) {
+        random.between(0, 8) as u32
+    } else {
+        random.edge(0, 8)
+    }
+}
+
+/// Mostly a channel's owner, sometimes a number that only resembles him.
+fn party_for(random: &mut Random, c: &Converter, channel: u32) -> u32 {
+    let owner = match channel {
+        1..=8 => u32::from(c.owners[channel as usize - 1]),
+        _ => 0,
+    };
+    match random.below(20) {
+        0..=14 => owner,
+        15 => owner + 0x100,
+        16 => owner | 0x8000_0000,
+        17 => 0,
+        _ => party(random),
+    }
+}
+
+fn frame(random: &mut Random, c: &Converter) -> Vec<u8> {
+    let mut frame = match random.below(10) {
+        0..=1 => c.latest.to_vec(),
+        2 => c.shifting.to_vec(),
+        3 => {
+            let length = random.pick(&[0, 1, 2, 3, 26, 28, 30, 54]);
+            random.bytes(length)
+        }
+        _ => random.bytes(27),
+    };
+    if let Some(first) = frame.first_mut() {
+        match random.below(10) {
+            0 => *first ^= 0x10 << random.below(4),
+            1 => {}
+            _ => *first = 0xC0 | *first & 0x0F,
+        }
+    }
+    frame
+}
+
+fn reading(random: &mut Random, c: &Converter) -> Call {
+    let channel = if random.chance(88) {
+        random.between(1, 8) as u32
+    } else {
+        random.edge(1, 8)
+    };
+    let party = party_for(random, c, channel);
+    let frame = frame(random, c);
+    if random.flag() {
+        Call::ReadChannel {
+            party,
+            channel,
+            frame,
+        }
+    } else {
+        Call::ChannelBytes {
+            party,
+            channel,
+            frame,
+        }
+    }
+}
+
+/// Field, channel and value of a request, mostly sensible.
+pub fn setting(random: &mut Random) -> (u32, u32, u32) {
+    let field = match random.below(20) {
+        0..=7 => random.between(1, 9),
+        8..=10 => random.between(5, 9),
+        11..=16 => random.between(10, 26),
+        17 => random.pick(&[2, 12, 15]),
+        _ => random.edge(1, 26) as usize,
+    } as u32;
+    let fitting = match field {
+        1..=9 => random.between(1, 8) as u32,
+        _ => 0,
+    };
+    let channel = match random.below(20) {
+        0..=16 => fitting,
+        17 => fitting + 0x100,
+        _ => random.edge(1, 8),
+    };
+    let width = cells::find(field, channel).map_or(1, |cell| cell.width);
+    let value = match random.below(20) {
+        0..=12 => random.below(1 << width),
+        13..=14 => (1 << width) - 1,
+        15..=16 => 1 << width,
+        17 => random.below(10),
+        _ => random.edge(0, 7) as usize,
+    } as u32;
+    (field, channel, value)
+}
+
+fn place(random: &mut Random, length: usize) -> usize {
+    match random.below(20) {
+        0..=9 => 0,
+        10..=12 => random.between(0, length),
+        13..=16 => length.saturating_sub(random.between(2, 8)),
+        17 => length + random.below(3),
+        18 => usize::MAX - random.below(10),
+        // Fits only if the place is cut to 32 bits.
+        _ => usize::try_from((1u64 << 32) + random.below(3) as u64).unwrap_or(usize::MAX),
+    }
+}
+
+fn plan(random: &mut Random, c: &Converter) -> Call {
+    let (field, channel, value) = setting(random);
+    let party = party_for(random, c, channel);
+    let length = if random.chance(15) {
+        random.below(8)
+    } else {
+        random.between(7, 24)
+    };
+    let at = place(random, length);
+    Call::Plan {
+        party,
+        field,
+        channel,
+        value,
+        tx: random.bytes(length),
+        at,
+    }
+}
+
+/// A number's bytes; `None` asks for a broken form.
+fn number_bytes(random: &mut Random, number: Option<u32>) -> Vec<u8> {
+    match number {
+        Some(number @ 0..=0x7F) => vec![number as u8],
+        Some(number) => vec![number as u8 | 0x80, (number >> 7 & 0x7F) as u8],
+        None => {
+            let second = random.pick(&[0x00, 0x80, 0x81, 0xFF]);
+            vec![random.byte() | 0x80, second]
+        }
+    }
+}
+
+fn wire_number(random: &mut Random) -> u32 {
+    let edges = [0, 1, 127, 128, 129, 255, 256, 300, 16_382, 16_383];
+    if random.flag() {
+        random.pick(&edges)
+    } else {
+        random.below(16_384) as u32
+    }
+}
+
+fn request_bytes(random: &mut Random) -> Vec<u8> {
+    let mut bytes = Vec::new();
+    for _ in 0..3 {
+        let number = if random.chance(6) {
+            None
+        } else {
+            Some(wire_number(random))
+        };
+        bytes.extend(number_bytes(random, number));
+    }
+    match random.below(4) {
+        0 => bytes.truncate(random.between(0, bytes.len())),
+        1 => bytes.extend(random.bytes(3)),
+        2 => return random.bytes(bytes.len()),
+        _ => {}
+    }
+    bytes
+}
+
+fn request_write(random: &mut Random) -> Call {
+    let mut number = || match random.below(12) {
+        0 => random.pick(&[16_384, 16_385, 65_536, 0x0100_0003, u32::MAX]),
+        _ => wire_number(random),
+    };
+    let (field, channel, value) = (number(), number(), number());
+    let length = random.between(0, 8);
+    Call::RequestWrite {
+        field,
+        channel,
+        value,
+        buffer: random.bytes(length),
+    }
+}
+
+/// Program input of about the given length, or exactly so.
+fn console_input(random: &mut Random, length: usize, exact: bool) -> Vec<u8> {
+    let mut input = vec![match random.below(10) {
+        0..=4 => 1,
+        5..=6 => 0,
+        _ => random.byte(),
+    }];
+    while input.len() < length {
+        let (field, channel, value) = setting(random);
+        for number in [field, channel, value] {
+            input.extend(number_bytes(random, Some(number & 0x3FFF)));
+        }
+    }
+    if exact {
+        input.truncate(length);
+    } else if random.chance(20) {
+        input.truncate(random.between(0, input.len()));
+    } else if random.chance(10) {
+        input.extend(number_bytes(random, None));
+    }
+    input
+}
+
+fn console(random: &mut Random) -> Call {
+    let input = if random.chance(20) {
+        let length = random.pick(&[4_000, 4_095, 4_096, 4_096, 4_097, 4_097, 6_000]);
+        console_input(random, length, true)
+    } else {
+        let length = random.between(1, 40);
+        console_input(random, length, false)
+    };
+    Call::Console { input }
+}
+
+fn send(script: &mut Script, bytes: impl IntoIterator<Item = u8>) {
+    script.extend(bytes.into_iter().map(|byte| Call::Step { byte }));
+}
+
+/// Queues a whole command, a long read-out or a change of modes.
+fn queue_script(random: &mut Random, c: &Converter, script: &mut Script) {
+    if random.flag() {
+        script.push_back(Call::Deselect);
+    }
+    match random.below(10) {
+        // Let a frame run out, and past its end.
+        0 => {
+            let idle = random.pick(&[0x00, 0x00, 0x00, 0x01, 0x60, 0xFF]);
+            send(script, vec![idle; random.between(1, 60)]);
+        }
+        // Awake, converting, continuous or not, one sample, then read it.
+        1 => {
+            send(script, [0x02, 0x08, random.pick(&[0x10, 0x11])]);
+            script.push_back(sample(random, c));
+            send(script, [0x12]);
+            send(script, vec![0x00; random.between(1, 58)]);
+        }
+        // Read-back on, then a frame that starts over, newer samples between.
+        2 => {
+            send(script, [0x02, 0x08, 0x11, 0x41, 0x00, 0x40 | random.byte()]);
+            script.push_back(sample(random, c));
+            send(script, [random.pick(&[0x10, 0x12, 0x12])]);
+            script.push_back(sample(random, c));
+            send(script, vec![0x00; 20]);
+            script.push_back(sample(random, c));
+            send(script, vec![0x00; random.between(1, 40)]);
+        }
+        // A register read or write in full, past the last register too.
+        3..=5 => {
+            let count = random.edge_or(&[1, 2, 8, 24, 31, 32], 1, 32);
+            let first = random.pick(&[0x20, 0x40, 0x40]) | random.byte() & 0x1F;
+            send(script, [0x02, 0x11, first, count as u8 - 1]);
+            for _ in 0..count {
+                if random.chance(6) {
+                    script.push_back(sample(random, c));
+                }
+                send(script, [random.byte()]);
+            }
+        }
+        // A change of mode and a change of owner.
+        6 => {
+            send(script, [random.pick(&[0x02, 0x04, 0x10, 0x11])]);
+            script.push_back(grant(random));
+        }
+        // A command while a frame goes out, converting or not, in either mode.
+        7..=8 => {
+            send(script, [0x02, 0x08, random.pick(&[0x10, 0x11])]);
+            script.push_back(sample(random, c));
+            send(script, [random.pick(&[0x00, 0x0A]), 0x12]);
+            send(script, vec![0x00; random.below(27)]);
+            let register = random.pick(&[0x20, 0x40]) | random.byte() & 0x1F;
+            let command = random.pick(&COMMANDS);
+            send(
+                script,
+                [
+                    if random.chance(80) { command } else { register },
+                    0x00,
+                    0x00,
+                ],
+            );
+        }
+        // A plan-like run in whatever mode.
+        _ => {
+            let register = random.below(24) as u8;
+            send(script, [0x11, 0x40 | register, 0x00, random.byte(), 0x10]);
+        }
+    }
+}
+
+/// One call of each entry point that is given a state, in random order.
+pub fn every_entry(random: &mut Random, c: &Converter) -> Script {
+    let channel = random.between(1, 8) as u32;
+    let (party, frame) = (party_for(random, c, channel), frame(random, c));
+    let mut calls = vec![
+        Call::Step {
+            byte: byte_to_send(random, c),
+        },
+        Call::Deselect,
+        sample(random, c),
+        grant(random),
+        Call::ReadChannel {
+            party,
+            channel,
+            frame: frame.clone(),
+        },
+        Call::ChannelBytes {
+            party,
+            channel,
+            frame,
+        },
+        plan(random, c),
+    ];
+    let mut script = Script::new();
+    while !calls.is_empty() {
+        script.push_back(calls.swap_remove(random.below(calls.len())));
+    }
+    script
+}
+
+/// The next call to make, given the present state.
+pub fn next(random: &mut Random, c: &Converter, script: &mut Script) -> Call {
+    if let Some(call) = script.pop_front() {
+        return call;
+    }
+    match random.below(1000) {
+        0..=399 => Call::Step {
+            byte: byte_to_send(random, c),
+        },
+        400..=499 => sample(random, c),
+        500..=719 => plan(random, c),
+        720..=769 => grant(random),
+        770..=869 => reading(random, c),
+        870..=914 => Call::RequestRead {
+            bytes: request_bytes(random),
+        },
+        915..=954 => request_write(random),
+        955..=969 => Call::Deselect,
+        970..=977 => console(random),
+        978..=980 => Call::PowerUp {
+            id: power_up_id(random),
+        },
+        _ => {
+            queue_script(random, c, script);
+            next(random, c, script)
+        }
+    }
+}
+
+pub fn power_up_id(random: &mut Random) -> u8 {
+    if random.chance(70) {
+        states::legal_id(random)
+    } else {
+        random.byte()
+    }
+}

@@ -1,0 +1,105 @@
+//! The settings once more, as one flat table of the harness's own.
+
+/// One setting of one channel (channel 0 for shared settings).
+#[derive(Clone, Copy, Debug, PartialEq, Eq)]
+pub struct Cell {
+    pub field: u32,
+    pub channel: u32,
+    pub register: usize,
+    pub low: u32,
+    pub width: u32,
+}
+
+/// Field, register, highest and lowest bit of the shared settings.
+const SHARED: [(u32, usize, u32, u32); 17] = [
+    (10, 0x01, 6, 6),
+    (11, 0x01, 5, 5),
+    (12, 0x01, 2, 0),
+    (13, 0x02, 4, 4),
+    (14, 0x02, 2, 2),
+    (15, 0x02, 1, 0),
+    (16, 0x03, 7, 7),
+    (17, 0x03, 4, 4),
+    (18, 0x03, 3, 3),
+    (19, 0x03, 2, 2),
+    (20, 0x03, 1, 1),
+    (21, 0x04, 7, 5),
+    (22, 0x04, 3, 2),
+    (23, 0x04, 1, 0),
+    (24, 0x15, 5, 5),
+    (25, 0x17, 3, 3),
+    (26, 0x17, 1, 1),
+];
+
+/// Field, highest and lowest bit of the settings in CHnSET.
+const IN_CHANNEL_REGISTER: [(u32, u32, u32); 4] = [(1, 7, 7), (2, 6, 4), (3, 3, 3), (4, 2, 0)];
+
+/// Field and register of the settings with one bit for each channel.
+const BIT_PER_CHANNEL: [(u32, usize); 5] = [(5, 0x0D), (6, 0x0E), (7, 0x0F), (8, 0x10), (9, 0x11)];
+
+/// Values of the right width that are refused all the same.
+const BARRED: [(u32, u32); 3] = [(2, 7), (12, 7), (15, 2)];
+
+/// The setting a field and channel number name.
+pub fn find(field: u32, channel: u32) -> Option<Cell> {
+    let cell = |register, high, low| Cell {
+        field,
+        channel,
+        register,
+        low,
+        width: high - low + 1,
+    };
+    match channel {
+        0 => {
+            let &(_, register, high, low) = SHARED.iter().find(|row| row.0 == field)?;
+            Some(cell(register, high, low))
+        }
+        1..=8 => {
+            if let Some(&(_, high, low)) = IN_CHANNEL_REGISTER.iter().find(|row| row.0 == field) {
+                return Some(cell(0x04 + channel as usize, high, low));
+            }
+            let &(_, register) = BIT_PER_CHANNEL.iter().find(|row| row.0 == field)?;
+            Some(cell(register, channel - 1, channel - 1))
+        }
+        _ => None,
+    }
+}
+
+/// All settings.
+pub fn all() -> Vec<Cell> {
+    (0..=8)
+        .flat_map(|channel| (1..=26).filter_map(move |field| find(field, channel)))
+        .collect()
+}
+
+impl Cell {
+    pub fn mask(&self) -> u8 {
+        (((1u32 << self.width) - 1) << self.low) as u8
+    }
+
+    pub fn value(&self, registers: &[u8; 24]) -> u32 {
+        u32::from(registers[self.register]) >> self.low & ((1 << self.width) - 1)
+    }
+
+    pub fn store(&self, registers: &mut [u8; 24], value: u32) {
+        let register = &mut registers[self.register];
+        *register = *register & !self.mask() | (value << self.low) as u8;
+    }
+
+    pub fn admits(&self, value: u32) -> bool {
+        value >> self.width == 0 && !BARRED.contains(&(self.field, value))
+    }
+
+    /// The party that may set it, given the channels' owners.
+    pub fn owner(&self, owners: &[u8; 8]) -> u32 {
+        match self.channel {
+            0 => 0,
+            channel => u32::from(owners[channel as usize - 1]),
+        }
+    }
+
+    /// Whether its register holds settings of several channels.
+    pub fn register_is_shared_by_channels(&self) -> bool {
+        (5..=9).contains(&self.field)
+    }
+}

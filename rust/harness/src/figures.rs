@@ -1,0 +1,1112 @@
+//! Fixed figures: document 01's own (rows `fig`) and the checks drawn from
+//! it rule by rule (rows named after the rule). Each panics on a mismatch.
+
+use crate::cells;
+use crate::{Bench, Converter, Direction, Phase, Transfer};
+
+const SOME_CODES: [i32; 8] = [8_388_607, -8_388_608, -1, 0, 1, -2, 65_536, -65_537];
+
+fn fresh(bench: &impl Bench) -> Converter {
+    let (refusal, c) = bench.power_up(0x3E);
+    assert_eq!(refusal, 0, "power-up");
+    c
+}
+
+/// Sends bytes that must all be taken; gives the bytes out and the state.
+fn send(bench: &impl Bench, c: Converter, bytes: &[u8]) -> (Vec<u8>, Converter) {
+    crate::laws::send(bench, c, bytes).expect("no byte may be refused")
+}
+
+fn after(bench: &impl Bench, c: Converter, bytes: &[u8]) -> Converter {
+    send(bench, c, bytes).1
+}
+
+fn command_mode(bench: &impl Bench) -> Converter {
+    after(bench, fresh(bench), &[0x11])
+}
+
+/// In command mode, converting, with one sample taken.
+fn sampled(bench: &impl Bench) -> Converter {
+    let c = after(bench, command_mode(bench), &[0x08]);
+    take(bench, c, &SOME_CODES, 0xA5, 0x3C)
+}
+
+fn take(bench: &impl Bench, c: Converter, codes: &[i32], p: u8, n: u8) -> Converter {
+    let (refusal, next) = bench.sample(c, codes, p, n);
+    assert_eq!(refusal, 0, "sample");
+    next
+}
+
+/// A plan into a buffer of exactly `room` bytes: number, plan, state.
+fn plan(
+    bench: &impl Bench,
+    c: Converter,
+    [party, field, channel, value]: [u32; 4],
+    room: usize,
+) -> (u8, Vec<u8>, Converter) {
+    let mut tx = vec![0xEE; room];
+    let (refusal, length, next) = bench.plan(c, party, field, channel, value, &mut tx, 0);
+    if refusal != 0 {
+        assert_eq!(
+            (length, &tx, next),
+            (0, &vec![0xEE; room], c),
+            "refused plan"
+        );
+    }
+    tx.truncate(length);
+    (refusal, tx, next)
+}
+
+fn number(bench: &impl Bench, c: Converter, request: [u32; 4]) -> u8 {
+    plan(bench, c, request, 7).0
+}
+
+fn granted(bench: &impl Bench, c: Converter, receiver: u32, channel: u32) -> Converter {
+    let (refusal, next) = bench.grant(c, 0, receiver, channel);
+    assert_eq!(refusal, 0, "grant");
+    next
+}
+
+fn counting(c: Converter, direction: Direction, address: u8, remaining: u8) -> Converter {
+    Converter {
+        phase: Phase::Counting(Transfer {
+            direction,
+            address,
+            remaining,
+        }),
+        ..c
+    }
+}
+
+fn held(c: Converter, direction: Direction, address: u8, remaining: u8) -> Converter {
+    Converter {
+        phase: Phase::Held(Transfer {
+            direction,
+            address,
+            remaining,
+        }),
+        ..c
+    }
+}
+
+fn frame_with(first: [u8; 3], channel: usize, code: [u8; 3]) -> [u8; 27] {
+    let mut frame = [0; 27];
+    frame[..3].copy_from_slice(&first);
+    frame[3 * channel..3 * channel + 3].copy_from_slice(&code);
+    frame
+}
+
+// Document 01's own figures.
+
+pub fn fig01_to_04_plans(bench: &impl Bench) {
+    let gain = [0, 2, 3, 4];
+    let c = command_mode(bench);
+    assert_eq!(plan(bench, c, gain, 3).1, [0x47, 0x00, 0x40]);
+    let c = after(bench, c, &[0x04]);
+    assert_eq!(plan(bench, c, gain, 5).1, [0x02, 0x47, 0x00, 0x40, 0x04]);
+    let c = after(bench, fresh(bench), &[0x04]);
+    let (refusal, bytes, next) = plan(bench, c, gain, 7);
+    assert_eq!(
+        (refusal, bytes),
+        (0, vec![0x02, 0x11, 0x47, 0x00, 0x40, 0x10, 0x04])
+    );
+    assert!(next.standby && next.continuous && next.registers[7] == 0x40);
+    assert_eq!(plan(bench, c, gain, 6).0, 9);
+}
+
+pub fn fig05_others_bits_kept(bench: &impl Bench) {
+    let c = after(bench, command_mode(bench), &[0x4D, 0x00, 0x12]);
+    assert_eq!(plan(bench, c, [0, 5, 3, 1], 3).1, [0x4D, 0x00, 0x16]);
+}
+
+pub fn fig06_masked_write(bench: &impl Bench) {
+    let c = after(bench, command_mode(bench), &[0x41, 0x00, 0xFF]);
+    assert_eq!(c.registers[1], 0xF7);
+}
+
+pub fn fig07_write_in_continuous_mode_resets(bench: &impl Bench) {
+    let c = after(bench, command_mode(bench), &[0x45, 0x00, 0x81, 0x08, 0x10]);
+    let c = granted(bench, granted(bench, c, 5, 2), 1, 8);
+    let c = take(bench, c, &SOME_CODES, 0x55, 0x66);
+    assert!(c.converting && c.output == Some(0) && c.registers[5] == 0x81);
+    let expected = Converter {
+        owners: [0, 5, 0, 0, 0, 0, 0, 1],
+        ..fresh(bench)
+    };
+    assert_eq!(after(bench, c, &[0x45, 0x00, 0x06]), expected);
+}
+
+pub fn fig08_register_read(bench: &impl Bench) {
+    let c = command_mode(bench);
+    let (out, next) = send(bench, c, &[0x20, 0x01, 0x00, 0x00]);
+    assert_eq!(out, [0x00, 0x00, 0x3E, 0x96]);
+    assert_eq!(next, c);
+}
+
+pub fn fig09_to_11_codes(bench: &impl Bench) {
+    let rows = [
+        ([0x7F, 0xFF, 0xFF], 8_388_607),
+        ([0x80, 0x00, 0x00], -8_388_608),
+        ([0xFF, 0xFF, 0xFF], -1),
+        ([0x00, 0x00, 0x00], 0),
+        ([0x00, 0x00, 0x01], 1),
+        ([0xFF, 0xFF, 0xFE], -2),
+    ];
+    let c = after(bench, command_mode(bench), &[0x08]);
+    for (bytes, code) in rows {
+        for channel in 1..=8 {
+            let frame = frame_with([0xC0, 0, 0], channel, bytes);
+            let reading = bench.read_channel(c, 0, channel as u32, &frame);
+            assert_eq!(reading, (0, code, false, false));
+            let mut codes = [0; 8];
+            codes[channel - 1] = code;
+            let built = take(bench, c, &codes, 0, 0).latest;
+            assert_eq!(built, frame);
+        }
+    }
+}
+
+pub fn fig12_frame_start(bench: &impl Bench) {
+    let c = take(
+        bench,
+        after(bench, fresh(bench), &[0x08]),
+        &[0; 8],
+        0x01,
+        0x80,
+    );
+    assert_eq!(c.latest[..3], [0xC0, 0x18, 0x00]);
+}
+
+pub fn fig15_to_18_parties_and_values(bench: &impl Bench) {
+    let c = granted(bench, fresh(bench), 1, 3);
+    assert_eq!(number(bench, c, [2, 2, 3, 4]), 6);
+    assert_eq!(number(bench, c, [0, 12, 0, 6]), 0);
+    assert_eq!(number(bench, c, [0, 12, 0, 7]), 7);
+    assert_eq!(number(bench, c, [0, 15, 0, 2]), 7);
+    assert_eq!(number(bench, c, [0, 15, 0, 3]), 0);
+    assert_eq!(number(bench, c, [8, 2, 3, 4]), 6);
+    assert_eq!(number(bench, granted(bench, c, 8, 3), [8, 2, 3, 4]), 0);
+    assert_eq!(number(bench, c, [9, 2, 3, 4]), 3);
+    assert_eq!(bench.grant(c, 0, 9, 3), (3, c));
+}
+
+pub fn fig19_request_reading(bench: &impl Bench) {
+    let rows: [(&[u8], u8); 9] = [
+        (&[0x83, 0x00], 2),
+        (&[0x83, 0x80], 2),
+        (&[0x83], 1),
+        (&[], 1),
+        (&[0x01, 0x83, 0x00], 2),
+        (&[0x01, 0x02, 0x83], 1),
+        (&[0x01, 0x02], 1),
+        (&[0x83, 0x00, 0x83], 2),
+        (&[0x01, 0x02, 0x83, 0xFF, 0x00], 2),
+    ];
+    for (bytes, refusal) in rows {
+        assert_eq!(
+            bench.request_read(bytes),
+            (refusal, 0, 0, 0, 0),
+            "{bytes:02x?}"
+        );
+    }
+    assert_eq!(
+        bench.request_read(&[0xAC, 0x02, 0x80, 0x01, 0xFF, 0x7F, 0x83]),
+        (0, 300, 128, 16_383, 6)
+    );
+    assert_eq!(bench.request_read(&[1, 2, 3, 0x83, 0x00]), (0, 1, 2, 3, 3));
+    assert_eq!(
+        bench.request_read(&[0, 127, 0x81, 0x01]),
+        (0, 0, 127, 129, 4)
+    );
+}
+
+pub fn fig20_program_case(bench: &impl Bench) {
+    let output = bench.console(&[0x01, 0x02, 0x03, 0x04, 0x02, 0x03, 0x07, 0x02]);
+    assert_eq!(output, b"0 11 47 00 40 10\n7\n1\n");
+}
+
+// Registers and power-up.
+
+const POWER_UP: [u8; 24] = [
+    0x3E, 0x96, 0xC0, 0x60, 0x00, 0x60, 0x60, 0x60, 0x60, 0x60, 0x60, 0x60, 0x60, 0x00, 0x00, 0x00,
+    0x00, 0x00, 0x00, 0x00, 0x0F, 0x00, 0x00, 0x00,
+];
+const MASKS: [u8; 24] = [
+    0x00, 0x67, 0x17, 0x9E, 0xEF, 0xFF, 0xFF, 0xFF, 0xFF, 0xFF, 0xFF, 0xFF, 0xFF, 0xFF, 0xFF, 0xFF,
+    0xFF, 0xFF, 0x00, 0x00, 0xFF, 0x20, 0x00, 0x0A,
+];
+
+pub fn reg1_reg2_reg8_power_up(bench: &impl Bench) {
+    let expected = Converter {
+        registers: POWER_UP,
+        owners: [0; 8],
+        latest: [0; 27],
+        output: None,
+        continuous: true,
+        standby: false,
+        converting: false,
+        shifting: [0; 27],
+        phase: Phase::Waiting,
+    };
+    assert_eq!(fresh(bench), expected);
+    let mut bytes = vec![0x20, 0x17];
+    bytes.extend([0xFF; 24]);
+    let (out, _) = send(bench, command_mode(bench), &bytes);
+    assert_eq!(out[2..], POWER_UP);
+}
+
+pub fn reg3_reg4_masks(bench: &impl Bench) {
+    for (address, mask) in MASKS.into_iter().enumerate() {
+        for filling in [0x00, 0xFF, 0x5A] {
+            let mut c = command_mode(bench);
+            c.registers[1..].fill(filling);
+            for data in [0xFF, 0x00, 0xA7] {
+                let mut expected = c;
+                expected.registers[address] = c.registers[address] & !mask | data & mask;
+                let next = after(bench, c, &[0x40 | address as u8, 0x00, data]);
+                assert_eq!(next, expected, "register {address:02x}");
+            }
+        }
+    }
+}
+
+pub fn reg5_past_the_last_register(bench: &impl Bench) {
+    let c = command_mode(bench);
+    let (_, next) = send(bench, c, &[0x57, 0x02, 0xFF, 0xFF, 0xFF]);
+    let mut expected = c;
+    expected.registers[0x17] = 0x0A;
+    assert_eq!(next, expected);
+    let mut read = vec![0x3F, 0x1F];
+    read.extend([0x06; 32]);
+    let (out, next) = send(bench, c, &read);
+    assert_eq!((out, next), (vec![0; 34], c));
+    let mut write = vec![0x5F, 0x1F];
+    write.extend([0xFF; 32]);
+    assert_eq!(after(bench, c, &write), c);
+    assert_ne!(after(bench, c, &write[..33]).phase, Phase::Waiting);
+}
+
+pub fn reg7_reg9_ids(bench: &impl Bench) {
+    for id in 0..=255u8 {
+        let legal = [0x1E, 0x3E, 0x5E, 0x7E, 0x9E, 0xBE, 0xDE, 0xFE].contains(&id);
+        let mut expected = fresh(bench);
+        expected.registers[0] = if legal { id } else { 0 };
+        let refusal = if legal { 0 } else { 13 };
+        assert_eq!(bench.power_up(id), (refusal, expected), "ID {id:02x}");
+    }
+}
+
+// Settings.
+
+pub fn fld1_to_fld4_every_setting(bench: &impl Bench) {
+    for mode in [vec![0x11], vec![], vec![0x04], vec![0x11, 0x04]] {
+        for start in [0x00, 0xFF, 0x5A] {
+            let mut c = fresh(bench);
+            c.registers[1..].fill(start);
+            let c = after(bench, c, &mode);
+            for cell in cells::all() {
+                for value in (0..=9).chain([16, 127, 256, 258, 65_536, u32::MAX]) {
+                    let (refusal, _, next) =
+                        plan(bench, c, [0, cell.field, cell.channel, value], 7);
+                    let mut expected = c;
+                    if cell.admits(value) {
+                        cell.store(&mut expected.registers, value);
+                    }
+                    let refused = if cell.admits(value) { 0 } else { 7 };
+                    assert_eq!(
+                        (refusal, next),
+                        (refused, expected),
+                        "{cell:?} value {value}"
+                    );
+                }
+            }
+        }
+    }
+}
+
+pub fn fld5_settings_fill_the_masks(_bench: &impl Bench) {
+    let cells = cells::all();
+    assert_eq!(cells.len(), 89);
+    let mut covered = [0u8; 24];
+    for cell in &cells {
+        assert_eq!(covered[cell.register] & cell.mask(), 0, "{cell:?} overlaps");
+        covered[cell.register] |= cell.mask();
+    }
+    for (address, (&covered, &mask)) in covered.iter().zip(&MASKS).enumerate() {
+        assert_eq!(
+            covered,
+            if address == 0x14 { 0 } else { mask },
+            "register {address:02x}"
+        );
+    }
+}
+
+// Bytes.
+
+pub fn byt2_byte_out_before_acting(bench: &impl Bench) {
+    let c = sampled(bench);
+    let mut bytes = vec![0x12];
+    bytes.extend([0x00; 11]);
+    bytes.push(0x06);
+    let (out, _) = send(bench, c, &bytes);
+    assert_eq!(out[0], 0x00);
+    assert_eq!(out[1..], c.latest[..12]);
+}
+
+/// The state a single byte must lead to from waiting, short of a frame's end.
+fn expected_after(c: Converter, byte: u8) -> Converter {
+    let running_on = Converter {
+        output: c.output.map(|place| place + 1),
+        ..c
+    };
+    let emptied = Converter { output: None, ..c };
+    let transfer = |direction| held(emptied, direction, byte & 0x1F, 0);
+    if c.standby {
+        return if byte == 0x02 {
+            Converter {
+                standby: false,
+                ..emptied
+            }
+        } else {
+            running_on
+        };
+    }
+    match byte {
+        0x04 => Converter {
+            standby: true,
+            ..emptied
+        },
+        0x06 => Converter {
+            registers: POWER_UP,
+            latest: [0; 27],
+            shifting: [0; 27],
+            continuous: true,
+            converting: false,
+            ..emptied
+        },
+        0x08 if !c.converting => Converter {
+            converting: true,
+            ..emptied
+        },
+        0x0A if c.converting => Converter {
+            converting: false,
+            ..emptied
+        },
+        0x10 if !c.continuous => Converter {
+            continuous: true,
+            ..emptied
+        },
+        0x11 if c.continuous => Converter {
+            continuous: false,
+            ..emptied
+        },
+        0x12 if !c.continuous => Converter {
+            shifting: c.latest,
+            output: Some(0),
+            ..emptied
+        },
+        0x20..=0x3F if !c.continuous => transfer(Direction::Read),
+        0x40..=0x5F if !c.continuous => transfer(Direction::Write),
+        _ => running_on,
+    }
+}
+
+pub fn byt3_byt10_to_byt20_every_byte(bench: &impl Bench) {
+    for modes in 0..16 {
+        let mut c = sampled(bench);
+        c.owners = [0, 1, 2, 3, 4, 5, 6, 7];
+        c.registers[0x17] = 0x0A;
+        c.shifting = [0x77; 27];
+        c.output = if modes & 8 != 0 { Some(4) } else { None };
+        c.continuous = modes & 1 != 0;
+        c.standby = modes & 2 != 0;
+        c.converting = modes & 4 != 0;
+        for byte in 0..=255 {
+            let out = if c.output.is_some() { 0x77 } else { 0x00 };
+            let expected = (0, out, expected_after(c, byte));
+            assert_eq!(bench.step(c, byte), expected, "byte {byte:02x} on {c:x?}");
+        }
+    }
+}
+
+pub fn byt4_byt16_dropped_command(bench: &impl Bench) {
+    let c = command_mode(bench);
+    for second in 32..=255 {
+        let next = after(bench, c, &[0x41, second]);
+        assert_eq!(next, c, "second byte {second:02x}");
+    }
+    assert_eq!(after(bench, c, &[0x41, 0x20, 0x06]), fresh(bench));
+    let (out, _) = send(bench, sampled(bench), &[0x12, 0x00, 0x41, 0x20, 0x00]);
+    assert_eq!(out, [0x00, 0xCA, 0x53, 0x00, 0x00]);
+}
+
+pub fn byt5_byt6_registers_change_at_their_own_byte(bench: &impl Bench) {
+    let c = command_mode(bench);
+    let third = after(bench, c, &[0x45, 0x01, 0x12]);
+    assert_eq!((third.registers[5], third.registers[6]), (0x12, 0x60));
+    assert_eq!(
+        third,
+        counting(
+            Converter {
+                registers: third.registers,
+                ..c
+            },
+            Direction::Write,
+            6,
+            1
+        )
+    );
+    let fourth = after(bench, third, &[0x34]);
+    assert_eq!((fourth.registers[5], fourth.registers[6]), (0x12, 0x34));
+    assert_eq!(fourth.phase, Phase::Waiting);
+    let second = after(bench, c, &[0x45, 0x01]);
+    assert_eq!(second, counting(c, Direction::Write, 5, 2));
+    let first = after(bench, c, &[0x45]);
+    assert_eq!(first, held(c, Direction::Write, 5, 0));
+}
+
+pub fn byt7_no_decoding_during_a_read(bench: &impl Bench) {
+    let c = sampled(bench);
+    let (out, next) = send(bench, c, &[0x20, 0x03, 0x06, 0x04, 0x12, 0x41]);
+    assert_eq!((out, next), (vec![0, 0, 0x3E, 0x96, 0xC0, 0x60], c));
+}
+
+pub fn byt8_registers_read_as_they_stand(bench: &impl Bench) {
+    let c = after(bench, sampled(bench), &[0x32, 0x01]);
+    let c = take(bench, c, &[0; 8], 0x55, 0x00);
+    let (out_p, c) = send(bench, c, &[0x00]);
+    let c = take(bench, c, &[0; 8], 0x00, 0x66);
+    let (out_n, c) = send(bench, c, &[0x00]);
+    assert_eq!((out_p[0], out_n[0], c.phase), (0x55, 0x66, Phase::Waiting));
+}
+
+pub fn byt15_acting_empties_output(bench: &impl Bench) {
+    let c = after(bench, sampled(bench), &[0x0A, 0x12, 0x00, 0x00, 0x00]);
+    let (out, _) = send(bench, c, &[0x08, 0x00]);
+    assert_eq!(out, [0x7F, 0x00]);
+    let (out, _) = send(bench, c, &[0x0A, 0x00]);
+    assert_eq!(out, [0x7F, 0xFF]);
+}
+
+pub fn byt17_byt18_rdata_restarts_rdatac_does_not_load(bench: &impl Bench) {
+    let c = after(bench, sampled(bench), &[0x12, 0, 0, 0, 0, 0]);
+    let (out, c) = send(bench, c, &[0x12, 0x00, 0x00]);
+    assert_eq!(out[1..], [0xCA, 0x53]);
+    let (out, _) = send(bench, c, &[0x10, 0x00, 0x00]);
+    assert_eq!(out[1..], [0x00, 0x00]);
+}
+
+pub fn byt21_frame_start_over(bench: &impl Bench) {
+    for continuous in [false, true] {
+        let start = if continuous {
+            after(bench, sampled(bench), &[0x10])
+        } else {
+            sampled(bench)
+        };
+        for read_back in [false, true] {
+            let mut c = start;
+            c.registers[1] = if read_back { 0x40 } else { 0xBF };
+            c.shifting = std::array::from_fn(|index| index as u8 + 1);
+            c.output = Some(0);
+            let (out, next) = send(bench, c, &[0x00; 54]);
+            assert_eq!(out[..27], c.shifting);
+            let second = if read_back { c.shifting } else { [0; 27] };
+            assert_eq!(out[27..], second);
+            let output = if read_back { Some(0) } else { None };
+            assert_eq!(next, Converter { output, ..c });
+        }
+    }
+}
+
+pub fn byt22_zeros_lead_back_to_waiting(bench: &impl Bench) {
+    let c = command_mode(bench);
+    for direction in [Direction::Read, Direction::Write] {
+        for address in 0..=62 {
+            for remaining in 1..=32.min(63 - address) {
+                let open = counting(c, direction, address, remaining);
+                let zeros = vec![0; usize::from(remaining)];
+                assert_ne!(after(bench, open, &zeros[1..]).phase, Phase::Waiting);
+                assert_eq!(after(bench, open, &zeros).phase, Phase::Waiting);
+            }
+        }
+        for address in 0..=31 {
+            let next = after(bench, held(c, direction, address, 0), &[0, 0]);
+            assert_eq!(next.phase, Phase::Waiting);
+        }
+    }
+}
+
+/// States that break one condition of refusal 13 each.
+fn broken_states(bench: &impl Bench) -> Vec<Converter> {
+    use Direction::{Read, Write};
+    let c = sampled(bench);
+    let mut broken = Vec::new();
+    for id in [0x3D, 0x1F, 0x00] {
+        let mut c = c;
+        c.registers[0] = id;
+        broken.push(c);
+    }
+    for index in 0..8 {
+        let mut c = c;
+        c.owners[index] = 9;
+        broken.push(c);
+    }
+    broken.push(held(c, Read, 32, 0));
+    broken.push(held(c, Write, 255, 0));
+    broken.push(counting(c, Read, 0, 0));
+    broken.push(counting(c, Write, 0, 33));
+    broken.push(counting(c, Read, 40, 24));
+    broken.push(counting(c, Write, 250, 30));
+    broken.push(counting(c, Write, 255, 1));
+    broken.push(Converter {
+        output: Some(27),
+        ..c
+    });
+    broken.push(Converter {
+        output: Some(255),
+        ..c
+    });
+    for open in [held(c, Read, 5, 0), counting(c, Write, 5, 1)] {
+        broken.push(Converter {
+            continuous: true,
+            ..open
+        });
+        broken.push(Converter {
+            standby: true,
+            ..open
+        });
+        broken.push(Converter {
+            output: Some(0),
+            ..open
+        });
+    }
+    broken
+}
+
+pub fn byt23_sel2_tot3_broken_states_refused(bench: &impl Bench) {
+    let frame = frame_with([0xCF, 0xFF, 0xFF], 1, [0xFF; 3]);
+    for c in broken_states(bench) {
+        assert_eq!(bench.step(c, 0x06), (13, 0, c));
+        assert_eq!(bench.deselect(c), (13, c));
+        assert_eq!(bench.sample(c, &SOME_CODES, 1, 2), (13, c));
+        assert_eq!(bench.sample(c, &[], 1, 2), (13, c));
+        assert_eq!(bench.grant(c, 0, 1, 1), (13, c));
+        assert_eq!(bench.grant(c, 9, 9, 9), (13, c));
+        assert_eq!(bench.read_channel(c, 0, 1, &frame), (13, 0, false, false));
+        assert_eq!(bench.read_channel(c, 9, 9, &[]), (13, 0, false, false));
+        assert_eq!(bench.channel_bytes(c, 0, 1, &frame), 0..0);
+        assert_eq!(number(bench, c, [0, 2, 3, 4]), 13);
+        assert_eq!(number(bench, c, [9, 27, 9, 99]), 13);
+    }
+}
+
+pub fn rule13_edges_pass(bench: &impl Bench) {
+    use Direction::{Read, Write};
+    let c = sampled(bench);
+    let mut odd = c;
+    odd.registers[1..].fill(0xFF);
+    odd.owners = [8; 8];
+    let sound = [
+        counting(c, Read, 62, 1),
+        counting(c, Write, 40, 23),
+        counting(c, Write, 31, 32),
+        held(c, Read, 31, 0),
+        held(c, Write, 31, 7),
+        held(c, Write, 31, 255),
+        Converter {
+            output: Some(26),
+            ..c
+        },
+        Converter {
+            output: Some(26),
+            standby: true,
+            continuous: true,
+            ..c
+        },
+        odd,
+    ];
+    for c in sound {
+        assert_eq!(
+            bench.deselect(c),
+            (
+                0,
+                Converter {
+                    output: None,
+                    phase: Phase::Waiting,
+                    ..c
+                }
+            )
+        );
+        assert_eq!(bench.step(c, 0x00).0, 0);
+        assert_eq!(bench.grant(c, 0, 0, 1).0, 0);
+    }
+}
+
+// Select line.
+
+pub fn sel1_sel3_select_rise(bench: &impl Bench) {
+    let c = after(bench, sampled(bench), &[0x45, 0x01, 0x12]);
+    let (refusal, next) = bench.deselect(c);
+    assert_eq!(
+        (refusal, next),
+        (
+            0,
+            Converter {
+                phase: Phase::Waiting,
+                ..c
+            }
+        )
+    );
+    assert_eq!((next.registers[5], next.registers[6]), (0x12, 0x60));
+    assert_eq!(bench.deselect(next), (0, next));
+    let pending = Converter {
+        output: Some(7),
+        standby: true,
+        continuous: true,
+        ..next
+    };
+    assert_eq!(
+        bench.deselect(pending),
+        (
+            0,
+            Converter {
+                output: None,
+                ..pending
+            }
+        )
+    );
+}
+
+// Samples and frames.
+
+pub fn smp1_smp2_judging(bench: &impl Bench) {
+    let running = after(bench, command_mode(bench), &[0x08]);
+    let sleeping = after(bench, running, &[0x04]);
+    let stopped = command_mode(bench);
+    for c in [sleeping, stopped] {
+        for codes in [&[][..], &[0; 7], &[0; 8], &[i32::MAX; 8]] {
+            assert_eq!(bench.sample(c, codes, 1, 1), (10, c));
+        }
+    }
+    for length in [0, 1, 7, 9, 16] {
+        assert_eq!(bench.sample(running, &vec![0; length], 1, 1), (11, running));
+    }
+    let mut half_down = running;
+    half_down.registers[5] = 0x80;
+    for c in [running, half_down] {
+        for index in 0..8 {
+            for (code, refusal) in [
+                (8_388_607, 0),
+                (-8_388_608, 0),
+                (8_388_608, 11),
+                (-8_388_609, 11),
+                (i32::MIN, 11),
+                (i32::MAX, 11),
+            ] {
+                let mut codes = [0; 8];
+                codes[index] = code;
+                assert_eq!(bench.sample(c, &codes, 1, 1).0, refusal, "code {code}");
+            }
+        }
+    }
+}
+
+pub fn smp3_status_registers(bench: &impl Bench) {
+    let (out, _) = send(bench, sampled(bench), &[0x32, 0x01, 0x00, 0x00]);
+    assert_eq!(out[2..], [0xA5, 0x3C]);
+}
+
+pub fn smp4_smp5_frame_bytes(bench: &impl Bench) {
+    let c = after(
+        bench,
+        command_mode(bench),
+        &[0x08, 0x54, 0x00, 0x8F, 0x46, 0x00, 0xE0],
+    );
+    let frame = take(bench, c, &[-1, 5, 0x12_3456, 4, 5, 6, 7, -8], 0xA5, 0x3C).latest;
+    let expected = [
+        0xCA, 0x53, 0xC8, 0xFF, 0xFF, 0xFF, 0, 0, 0, 0x12, 0x34, 0x56, 0, 0, 4, 0, 0, 5, 0, 0, 6,
+        0, 0, 7, 0xFF, 0xFF, 0xF8,
+    ];
+    assert_eq!(frame, expected);
+}
+
+pub fn smp6_smp7_what_a_sample_changes(bench: &impl Bench) {
+    let base = after(bench, sampled(bench), &[0x57, 0x00, 0x08]);
+    let at_place = after(bench, base, &[0x12, 0, 0, 0]);
+    let open = after(bench, base, &[0x45, 0x01, 0x12]);
+    let continuous = Converter {
+        output: Some(9),
+        ..after(bench, base, &[0x10])
+    };
+    for c in [base, at_place, open, continuous] {
+        let next = take(bench, c, &[1, 2, 3, 4, 5, 6, 7, 8], 0x11, 0x22);
+        let mut expected = c;
+        expected.registers[0x12] = 0x11;
+        expected.registers[0x13] = 0x22;
+        expected.latest = next.latest;
+        if c.continuous {
+            expected.output = Some(0);
+            expected.shifting = next.latest;
+        }
+        assert_eq!(next, expected);
+        assert_eq!(next.latest[..6], [0xC1, 0x12, 0x20, 0, 0, 1]);
+    }
+}
+
+// Reading.
+
+pub fn rdr2_order_and_owner(bench: &impl Bench) {
+    let c = granted(bench, fresh(bench), 1, 3);
+    let good = frame_with([0xCF, 0xFF, 0xFF], 3, [0xFF; 3]);
+    let mut wrong_start = good;
+    wrong_start[0] = 0x8F;
+    let rows: [(u32, u32, &[u8], u8); 12] = [
+        (9, 0, &[], 3),
+        (256 + 1, 3, &good, 3),
+        (1, 0, &[], 5),
+        (1, 9, &good, 5),
+        (1, 256 + 3, &good, 5),
+        (2, 3, &[], 6),
+        (0, 3, &good, 6),
+        (1, 4, &good, 6),
+        (1, 3, &[], 12),
+        (1, 3, &good[..26], 12),
+        (1, 3, &wrong_start, 12),
+        (1, 3, &[0xC0; 28], 12),
+    ];
+    for (party, channel, frame, refusal) in rows {
+        let reading = bench.read_channel(c, party, channel, frame);
+        assert_eq!(reading, (refusal, 0, false, false), "{party} {channel}");
+        assert_eq!(bench.channel_bytes(c, party, channel, frame), 0..0);
+    }
+    assert_eq!(bench.read_channel(c, 1, 3, &good), (0, -1, true, true));
+    assert_eq!(bench.channel_bytes(c, 1, 3, &good), 9..12);
+    assert_eq!(bench.read_channel(c, 1, 3, &c.latest).0, 12);
+}
+
+pub fn rdr3_lead_off_bits(bench: &impl Bench) {
+    let base = after(bench, command_mode(bench), &[0x08]);
+    for bit in 0..8 {
+        for (p, n) in [(1u8 << bit, 0), (0, 1u8 << bit)] {
+            let c = take(bench, base, &[0; 8], p, n);
+            let frame = c.latest;
+            let later = take(bench, c, &[0; 8], !p, !n);
+            for channel in 1..=8u32 {
+                let own = channel - 1 == bit;
+                let expected = (0, 0, own && p != 0, own && n != 0);
+                assert_eq!(bench.read_channel(later, 0, channel, &frame), expected);
+            }
+        }
+    }
+}
+
+pub fn rdr5_parts(bench: &impl Bench) {
+    let frame = frame_with([0xC0, 0, 0], 1, [1, 2, 3]);
+    for channel in 1..=8 {
+        let start = 3 * channel as usize;
+        assert_eq!(
+            bench.channel_bytes(fresh(bench), 0, channel, &frame),
+            start..start + 3
+        );
+    }
+}
+
+// Planning.
+
+pub fn pln3_every_set_of_faults(bench: &impl Bench) {
+    for faults in 0..256u32 {
+        let has = |bit: u32| faults >> bit & 1 == 1;
+        let mut c = command_mode(bench);
+        c.owners[2] = if has(4) { 2 } else { 1 };
+        if has(0) {
+            c.owners[7] = 9;
+        }
+        if has(6) {
+            c = held(c, Direction::Write, 1, 0);
+        }
+        let party = if has(1) { 9 } else { 1 };
+        let field = if has(2) { 27 } else { 2 };
+        let channel = if has(3) { 9 } else { 3 };
+        let value = if has(5) { 7 } else { 4 };
+        let room = if has(7) { 2 } else { 3 };
+        let numbers = [13, 3, 4, 5, 6, 7, 8, 9];
+        let expected = (0..8)
+            .find(|&bit| has(bit))
+            .map_or(0, |bit| numbers[bit as usize]);
+        let (refusal, bytes, _) = plan(bench, c, [party, field, channel, value], room);
+        assert_eq!(refusal, expected, "faults {faults:08b}");
+        assert_eq!(bytes.len(), if expected == 0 { 3 } else { 0 });
+    }
+}
+
+pub fn pln4_no_further_refusals(bench: &impl Bench) {
+    let c = after(bench, command_mode(bench), &[0x08, 0x47, 0x00, 0xF0]);
+    assert_eq!(number(bench, c, [0, 2, 3, 4]), 0);
+    assert_eq!(number(bench, c, [0, 1, 3, 1]), 0);
+    assert_eq!(number(bench, c, [0, 10, 0, 0]), 0);
+    assert_eq!(number(bench, c, [0, 0, 0, 0]), 4);
+    assert_eq!(number(bench, c, [0, 10, 1, 0]), 5);
+    assert_eq!(number(bench, c, [0, 9, 0, 0]), 5);
+    assert_eq!(number(bench, c, [1, 10, 0, 0]), 6);
+    assert_eq!(number(bench, c, [0, 256 + 10, 0, 0]), 4);
+    assert_eq!(number(bench, c, [256, 10, 0, 0]), 3);
+    assert_eq!(number(bench, c, [0, 10, 256, 0]), 5);
+    assert_eq!(number(bench, c, [0, 10, 0, 256]), 7);
+    let all_ones = granted(bench, c, 1, 3);
+    assert_eq!(number(bench, all_ones, [0, 2, 3, 4]), 6);
+}
+
+pub fn pln7_pln8_pln9_places(bench: &impl Bench) {
+    let c = after(bench, fresh(bench), &[0x04]);
+    let before: Vec<u8> = (0..12).map(|index| 0xA0 + index).collect();
+    let beyond_u32 = usize::try_from(1u64 << 32).unwrap_or(usize::MAX);
+    let places = (0..15).chain([
+        beyond_u32,
+        beyond_u32 + 1,
+        usize::MAX - 6,
+        usize::MAX - 1,
+        usize::MAX,
+    ]);
+    for at in places {
+        let mut tx = before.clone();
+        let (refusal, length, next) = bench.plan(c, 0, 2, 3, 4, &mut tx, at);
+        if at <= 5 {
+            assert_eq!((refusal, length, next.registers[7]), (0, 7, 0x40));
+            let mut expected = before.clone();
+            expected[at..at + 7].copy_from_slice(&[0x02, 0x11, 0x47, 0x00, 0x40, 0x10, 0x04]);
+            assert_eq!(tx, expected);
+        } else {
+            assert_eq!(
+                (refusal, length, next, tx),
+                (9, 0, c, before.clone()),
+                "place {at}"
+            );
+        }
+    }
+    assert_eq!(bench.plan(c, 0, 2, 3, 4, &mut [], 0), (9, 0, c));
+}
+
+pub fn pln10_pln13_state_after(bench: &impl Bench) {
+    for modes in 0..8 {
+        let mut c = sampled(bench);
+        c.registers[1..].fill(0xFF);
+        c.shifting = [0x99; 27];
+        c.output = Some(26);
+        c.continuous = modes & 1 != 0;
+        c.standby = modes & 2 != 0;
+        c.converting = modes & 4 != 0;
+        let (refusal, bytes, next) = plan(bench, c, [0, 2, 3, 4], 7);
+        let mut expected = Converter { output: None, ..c };
+        expected.registers[7] = 0xCF;
+        assert_eq!((refusal, next), (0, expected));
+        assert_eq!(after(bench, c, &bytes), expected);
+    }
+}
+
+// Requests as bytes.
+
+pub fn slw1_to_slw4_writer(bench: &impl Bench) {
+    let mut buffer = [0xEE; 8];
+    assert_eq!(bench.request_write(300, 0, 16_383, &mut buffer), (0, 5));
+    assert_eq!(buffer, [0xAC, 0x02, 0x00, 0xFF, 0x7F, 0xEE, 0xEE, 0xEE]);
+    let mut exact = [0xEE; 6];
+    assert_eq!(bench.request_write(128, 255, 256, &mut exact), (0, 6));
+    assert_eq!(exact, [0x80, 0x01, 0xFF, 0x01, 0x80, 0x02]);
+    for length in 0..6 {
+        let mut short = vec![0xEE; length];
+        assert_eq!(bench.request_write(128, 255, 256, &mut short), (9, 0));
+        assert_eq!(short, vec![0xEE; length]);
+    }
+    for numbers in [[16_384, 0, 0], [0, 16_384, 0], [0, 0, u32::MAX]] {
+        for length in [0, 8] {
+            let mut buffer = vec![0xEE; length];
+            let answer = bench.request_write(numbers[0], numbers[1], numbers[2], &mut buffer);
+            assert_eq!((answer, buffer), ((7, 0), vec![0xEE; length]));
+        }
+    }
+}
+
+pub fn slr3_slr5_round_trips(bench: &impl Bench) {
+    for number in (0..=16_383).step_by(7).chain([127, 128, 16_383]) {
+        let numbers = [number, 16_383 - number, number / 2];
+        let mut buffer = [0; 6];
+        let (refusal, used) = bench.request_write(numbers[0], numbers[1], numbers[2], &mut buffer);
+        let two_groups = numbers.iter().filter(|&&number| number > 127).count();
+        assert_eq!((refusal, used), (0, 3 + two_groups));
+        let read = bench.request_read(&buffer);
+        assert_eq!(read, (0, numbers[0], numbers[1], numbers[2], used));
+        assert_eq!(bench.request_read(&buffer[..used - 1]), (1, 0, 0, 0, 0));
+    }
+}
+
+// Grants.
+
+pub fn grt1_to_grt4_grants(bench: &impl Bench) {
+    let c = Converter {
+        output: Some(3),
+        standby: true,
+        ..sampled(bench)
+    };
+    let rows = [
+        ([9, 1, 0], 3),
+        ([0, 9, 0], 3),
+        ([1, 9, 3], 3),
+        ([256, 1, 3], 3),
+        ([0, 257, 3], 3),
+        ([1, 1, 0], 5),
+        ([1, 1, 9], 5),
+        ([0, 1, 256 + 3], 5),
+        ([1, 1, 3], 6),
+        ([8, 8, 8], 6),
+    ];
+    for ([caller, receiver, channel], refusal) in rows {
+        assert_eq!(bench.grant(c, caller, receiver, channel), (refusal, c));
+    }
+    for c in [c, held(sampled(bench), Direction::Read, 3, 0)] {
+        for channel in 1..=8 {
+            for receiver in 0..=8 {
+                let mut expected = c;
+                expected.owners[channel as usize - 1] = receiver as u8;
+                assert_eq!(bench.grant(c, 0, receiver, channel), (0, expected));
+            }
+        }
+    }
+}
+
+// The program.
+
+pub fn prg1_to_prg6_program(bench: &impl Bench) {
+    let rows: [(&[u8], &str); 17] = [
+        (&[], "1\n"),
+        (&[0x01], ""),
+        (&[0xFF], ""),
+        (&[0x00, 0x0C, 0x00, 0x06], "0 11 41 00 96 10\n"),
+        (&[0x00, 0x0F, 0x00, 0x03], "0 11 42 00 C3 10\n"),
+        (&[0x00, 0x02, 0x03, 0x04], "6\n"),
+        (&[0x02, 0x02, 0x03, 0x04], "6\n"),
+        (&[0x08, 0x02, 0x03, 0x04], "6\n"),
+        (&[0x09, 0x02, 0x03, 0x04], "3\n"),
+        (&[0x81, 0x02, 0x03, 0x04, 0x02, 0x03, 0x04], "3\n3\n"),
+        (&[0x01, 0x83, 0x00], "2\n"),
+        (&[0x01, 0x83, 0x00, 0x02, 0x03, 0x04], "2\n"),
+        (&[0x09, 0x83], "1\n"),
+        (
+            &[0x01, 0x05, 0x03, 0x01, 0x05, 0x08, 0x01],
+            "0 11 4D 00 04 10\n0 11 4D 00 84 10\n",
+        ),
+        (
+            &[0x01, 0x1B, 0x00, 0x00, 0x02, 0x09, 0x00, 0x02, 0x01, 0x05],
+            "4\n5\n0 11 45 00 50 10\n",
+        ),
+        (
+            &[0x01, 0x02, 0x01, 0x80, 0x01, 0x01, 0x01, 0x01],
+            "7\n0 11 45 00 E0 10\n",
+        ),
+        (
+            &[0x00, 0x0C, 0x00, 0x06, 0x0C, 0x00],
+            "0 11 41 00 96 10\n1\n",
+        ),
+    ];
+    for (input, output) in rows {
+        let text = String::from_utf8(bench.console(input)).expect("plain text");
+        assert_eq!(text, output, "input {input:02x?}");
+    }
+}
+
+pub fn prg5_input_limit(bench: &impl Bench) {
+    let mut input = vec![0x01];
+    for _ in 0..1365 {
+        input.extend([0x02, 0x03, 0x04]);
+    }
+    assert_eq!(input.len(), 4096);
+    let line = "0 11 47 00 40 10\n";
+    assert_eq!(bench.console(&input), line.repeat(1365).into_bytes());
+    input.push(0x02);
+    assert_eq!(bench.console(&input), b"14\n");
+    assert_eq!(bench.console(&[0; 10_000]), b"14\n");
+    assert_eq!(
+        bench.console(&input[..4095]),
+        (line.repeat(1364) + "1\n").into_bytes()
+    );
+}
+
+/// Hands the name of every figure to a macro.
+#[macro_export]
+macro_rules! for_each_figure {
+    ($action:ident, $bench:expr) => {
+        $action! { $bench;
+            fig01_to_04_plans
+            fig05_others_bits_kept
+            fig06_masked_write
+            fig07_write_in_continuous_mode_resets
+            fig08_register_read
+            fig09_to_11_codes
+            fig12_frame_start
+            fig15_to_18_parties_and_values
+            fig19_request_reading
+            fig20_program_case
+            reg1_reg2_reg8_power_up
+            reg3_reg4_masks
+            reg5_past_the_last_register
+            reg7_reg9_ids
+            fld1_to_fld4_every_setting
+            fld5_settings_fill_the_masks
+            byt2_byte_out_before_acting
+            byt3_byt10_to_byt20_every_byte
+            byt4_byt16_dropped_command
+            byt5_byt6_registers_change_at_their_own_byte
+            byt7_no_decoding_during_a_read
+            byt8_registers_read_as_they_stand
+            byt15_acting_empties_output
+            byt17_byt18_rdata_restarts_rdatac_does_not_load
+            byt21_frame_start_over
+            byt22_zeros_lead_back_to_waiting
+            byt23_sel2_tot3_broken_states_refused
+            rule13_edges_pass
+            sel1_sel3_select_rise
+            smp1_smp2_judging
+            smp3_status_registers
+            smp4_smp5_frame_bytes
+            smp6_smp7_what_a_sample_changes
+            rdr2_order_and_owner
+            rdr3_lead_off_bits
+            rdr5_parts
+            pln3_every_set_of_faults
+            pln4_no_further_refusals
+            pln7_pln8_pln9_places
+            pln10_pln13_state_after
+            slw1_to_slw4_writer
+            slr3_slr5_round_trips
+            grt1_to_grt4_grants
+            prg1_to_prg6_program
+            prg5_input_limit
+        }
+    };
+}
+
+/// Defines one `#[test]` for each figure, on the bench given.
+#[macro_export]
+macro_rules! figure_tests {
+    ($bench:expr) => {
+        $crate::for_each_figure! { figure_tests, $bench }
+    };
+    ($bench:expr; $($name:ident)*) => {
+        $(
+            #[test]
+            fn $name() {
+                $crate::figures::$name(&$bench);
+            }
+        )*
+    };
+}
+
+macro_rules! run_all {
+    ($bench:expr; $($name:ident)*) => {
+        $( $name($bench); )*
+    };
+}
+
+/// All figures; panics at the first mismatch.
+pub fn all(bench: &impl Bench) {
+    for_each_figure! { run_all, bench }
+}

@@ -1,0 +1,5 @@
+//! Every figure on the model.
+
+use harness::{figure_tests, Model};
+
+figure_tests! { Model }

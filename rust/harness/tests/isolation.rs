@@ -1,0 +1,29 @@
+//! Demand 3 on the model, and on a bench that breaks it.
+
+use harness::mutants::{Fault, Mutant};
+use harness::{isolation, settings, Model};
+
+#[test]
+fn parties_do_not_disturb_each_other() {
+    let rounds = (settings::calls() / 50).max(200);
+    let coverage = isolation::check(&Model, rounds, settings::seed())
+        .unwrap_or_else(|fault| panic!("{fault}"));
+    settings::say(&format!("isolation: {coverage:?}"));
+    assert!(coverage.accepted > coverage.requests / 5);
+    assert!(coverage.differing_plans > 0);
+}
+
+#[test]
+fn disturbing_benches_are_noticed() {
+    for fault in [
+        Fault::SharedRegisterFromPowerUp,
+        Fault::ValueBeforeOwner,
+        Fault::RoomTestWraps,
+        Fault::RefusedPlanLengthKept,
+    ] {
+        let result = std::panic::catch_unwind(|| {
+            isolation::check(&Mutant(fault), 2_000, settings::DEFAULT_SEED)
+        });
+        assert!(!matches!(result, Ok(Ok(_))), "{fault:?} went unnoticed");
+    }
+}

@@ -1,0 +1,30 @@
+//! Plain Rust model of a shared EEG test bench around one ADS1299.
+//!
+//! Written from the text of document 01 alone. Its words map to these terms:
+//! keeper = administrator, workshop = tenant, slip = setting request,
+//! sheet = transmit buffer.
+//!
+//! Every entry point answers with a refusal number first (0 is success); a
+//! refused call hands back the state it was given and leaves buffers alone.
+
+#![forbid(unsafe_code)]
+
+pub mod access;
+pub mod console;
+pub mod fields;
+pub mod frame;
+pub mod planner;
+pub mod refusal;
+pub mod registers;
+pub mod request;
+pub mod state;
+pub mod step;
+
+pub use access::{channel_bytes, grant, read_channel};
+pub use console::console;
+pub use frame::sample;
+pub use planner::plan;
+pub use refusal::Refusal;
+pub use request::{request_read, request_write};
+pub use state::{power_up, Converter, Direction, Phase, Transfer};
+pub use step::{deselect, step};

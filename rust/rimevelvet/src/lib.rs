@@ -1,0 +1,109 @@
+//! Safe wrappers over the proved library (include/rimevelvet.h).
+//!
+//! A state goes in by value and comes back by value; nothing is kept inside. Every answer begins with its refusal
+//! number, 0 for success; a refused call hands back the state and the buffers as they were given, and 0 for all else.
+//! Any bytes may be given as a [`State`]: those that stand for no state are refused by 13.
+
+mod ffi;
+
+use std::ops::Range;
+
+pub use ffi::{Moved, Parsed, Planned, PoweredUp, Reading, State, Stepped, Written};
+
+/// A converter right after power-up, with this ID. Refused by 13.
+pub fn power_up(id: u8) -> PoweredUp {
+    // SAFETY: plain values in and out.
+    unsafe { ffi::rimevelvet_power_up(id) }
+}
+
+/// Sends one byte and gives the byte that comes out meanwhile. Refused by 13.
+pub fn step(state: State, byte: u8) -> Stepped {
+    // SAFETY: plain values in and out.
+    unsafe { ffi::rimevelvet_step(state, byte) }
+}
+
+/// The select line rises. Refused by 13.
+pub fn deselect(state: State) -> Moved {
+    // SAFETY: plain values in and out.
+    unsafe { ffi::rimevelvet_deselect(state) }
+}
+
+/// A sample: the codes of channels 1 to 8 and the comparator bytes. Refused by 13, 10, 11.
+pub fn sample(state: State, codes: &[i32], p: u8, n: u8) -> Moved {
+    // SAFETY: the library reads `codes` alone, within its length.
+    unsafe { ffi::rimevelvet_sample(state, codes.as_ptr(), codes.len(), p, n) }
+}
+
+/// The administrator moves a channel to another owner. Refused by 13, 3, 5, 6.
+pub fn grant(state: State, caller: u32, receiver: u32, channel: u32) -> Moved {
+    // SAFETY: plain values in and out.
+    unsafe { ffi::rimevelvet_grant(state, caller, receiver, channel) }
+}
+
+/// A channel's code and lead-off bits out of a frame, for its owner. Refused by 13, 3, 5, 6, 12.
+pub fn read_channel(state: State, party: u32, channel: u32, frame: &[u8]) -> Reading {
+    // SAFETY: the library reads `frame` alone, within its length.
+    unsafe { ffi::rimevelvet_read_channel(state, party, channel, frame.as_ptr(), frame.len()) }
+}
+
+/// Where a channel's three bytes lie in the frame, for its owner; an empty range where a reading is refused.
+pub fn channel_range(state: State, party: u32, channel: u32, frame: &[u8]) -> Range<usize> {
+    // SAFETY: the library reads `frame` alone, within its length.
+    let part = unsafe {
+        ffi::rimevelvet_channel_bytes(state, party, channel, frame.as_ptr(), frame.len())
+    };
+    part.start..part.start + part.length
+}
+
+/// A channel's three bytes as a part of the caller's own frame; empty where a reading is refused.
+pub fn channel_bytes(state: State, party: u32, channel: u32, frame: &[u8]) -> &[u8] {
+    &frame[channel_range(state, party, channel, frame)]
+}
+
+/// The setting request that the bytes start with. Refused by 1, 2.
+pub fn request_read(bytes: &[u8]) -> Parsed {
+    // SAFETY: the library reads `bytes` alone, within its length.
+    unsafe { ffi::rimevelvet_request_read(bytes.as_ptr(), bytes.len()) }
+}
+
+/// Writes a setting request from the buffer's start on. Refused by 7, 9.
+pub fn request_write(field: u32, channel: u32, value: u32, buffer: &mut [u8]) -> Written {
+    // SAFETY: the library writes `buffer` alone, within its length.
+    unsafe {
+        ffi::rimevelvet_request_write(field, channel, value, buffer.as_mut_ptr(), buffer.len())
+    }
+}
+
+/// Plans a party's setting request into the transmit buffer from a place on. Refused by 13, 3 to 9.
+pub fn plan(
+    state: State,
+    party: u32,
+    field: u32,
+    channel: u32,
+    value: u32,
+    tx: &mut [u8],
+    at: usize,
+) -> Planned {
+    // SAFETY: the library writes `tx` alone, within its length.
+    unsafe {
+        ffi::rimevelvet_plan(
+            state,
+            party,
+            field,
+            channel,
+            value,
+            tx.as_mut_ptr(),
+            tx.len(),
+            at,
+        )
+    }
+}
+
+/// What the program prints for an input.
+pub fn transcript(input: &[u8]) -> Vec<u8> {
+    let mut out = vec![0; ffi::LONGEST_TRANSCRIPT];
+    // SAFETY: the library reads `input` within its length, and `out` has the room that it writes in.
+    let used = unsafe { ffi::rimevelvet_transcript(input.as_ptr(), input.len(), out.as_mut_ptr()) };
+    out.truncate(used);
+    out
+}
