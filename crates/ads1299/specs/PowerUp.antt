@@ -6,6 +6,7 @@ use lib.Dec.{eqb}
 use lib.ListN.{replicate, set}
 use Rattle.refusal.specs.Numbers.{none, invalidState}
 use Rattle.registers.specs.Addresses.{ID, channelCount}
+use Rattle.frame.specs.Frame.{frameLength}
 use Rattle.ads1299.specs.declared.Converter.{Converter}
 use Rattle.protocol.specs.declared.Output.the-variants.{Empty}
 use Rattle.protocol.specs.declared.Phase.the-variants.{Waiting}
@@ -18,8 +19,9 @@ use Rattle.ads1299.specs.State.{state}
 unfoldable pub validId : ℕ → Bool
 validId id = eqb (id % 32) 0x1E
 
+-- gives the frame at power-up: 27 zero bytes
 abbrev pub noFrame : List ℕ
-noFrame = replicate 27 0
+noFrame = replicate frameLength 0
 
 -- gives the power-up state with an ID and owners; RESET comes back to it as well
 unfoldable pub restored : ℕ → List ℕ → Converter

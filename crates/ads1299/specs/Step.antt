@@ -45,11 +45,12 @@ effect Unlisted s = s
 unfoldable pub commanded : Converter → Command → Converter
 commanded s c = cond (acts c (s .standby) (s .continuous) (s .converting)) (effect c (emptied s)) (ignored s)
 
--- gives the state after a register's byte: a read changes nothing else, a write that register alone
+-- gives the state after a register's byte, by direction: a read changes nothing else, a write that register alone
 abbrev pub countedIn : Direction → Converter → Transfer → ℕ → Converter
 countedIn Read s t b = withPhase s (remainder t)
 countedIn Write s t b = withRegisters (withPhase s (remainder t)) (written (s .registers) (t .address) b)
 
+-- gives the state after a register's byte
 unfoldable pub counted : Converter → Transfer → ℕ → Converter
 counted s t b = countedIn (t .direction) s t b
 
@@ -58,6 +59,7 @@ abbrev pub countedOut : Direction → Converter → Transfer → ℕ
 countedOut Read s t = registerAt (s .registers) (t .address)
 countedOut Write s t = pending (s .output) (s .shifting)
 
+-- gives the byte that goes out, by where the converter stands in a command
 abbrev pub outgoingIn : Phase → Converter → ℕ
 outgoingIn Waiting s = pending (s .output) (s .shifting)
 outgoingIn (Held t) s = pending (s .output) (s .shifting)
@@ -67,6 +69,7 @@ outgoingIn (Counting t) s = countedOut (t .direction) s t
 unfoldable pub outgoing : Converter → ℕ
 outgoing s = outgoingIn (s .phase) s
 
+-- gives the state after a byte, by where the converter stands in a command
 abbrev pub followedIn : Phase → Converter → ℕ → Converter
 followedIn Waiting s b = commanded s (decoded b)
 followedIn (Held t) s b = withPhase s (begun t b)

@@ -15,6 +15,7 @@ lastAddress = 31
 abbrev pub mostRegisters : ℕ
 mostRegisters = 32
 
+-- gives a transfer from its parts
 abbrev pub transfer : Direction → ℕ → ℕ → Transfer
 transfer direction address remaining = record { direction = direction; address = address; remaining = remaining }
 

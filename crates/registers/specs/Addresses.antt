@@ -5,6 +5,7 @@ use Prim.Native.Nat.{ℕ}
 abbrev pub registerCount : ℕ
 registerCount = 24
 
+-- channels 1 to 8
 abbrev pub channelCount : ℕ
 channelCount = 8
 

@@ -6,7 +6,7 @@ use crate::{cells, Bench, Converter, Model, Phase, Transfer};
 
 #[derive(Clone, Copy, Debug, PartialEq, Eq)]
 pub enum Fault {
-    // The ten asked for.
+    // Wrong builds that look reasonable.
     ZeroFilledNegativeCode,
     ResetKeepsMode,
     StartKeepsOutput,
@@ -17,7 +17,7 @@ pub enum Fault {
     LeadOffBitFromTheLeft,
     GrantWritesNeighbour,
     CountAlwaysTwo,
-    // Further wrong builds that look right.
+    // Rarer ones.
     AddressInFiveBits,
     AddressSumInEightBits,
     HeldCountJudged,
@@ -35,7 +35,7 @@ pub enum Fault {
     RefusedPlanLengthKept,
 }
 
-pub const ASKED_FOR: [Fault; 10] = [
+pub const LIKELY: [Fault; 10] = [
     Fault::ZeroFilledNegativeCode,
     Fault::ResetKeepsMode,
     Fault::StartKeepsOutput,
@@ -48,7 +48,7 @@ pub const ASKED_FOR: [Fault; 10] = [
     Fault::CountAlwaysTwo,
 ];
 
-pub const FURTHER: [Fault; 15] = [
+pub const RARER: [Fault; 15] = [
     Fault::AddressInFiveBits,
     Fault::AddressSumInEightBits,
     Fault::HeldCountJudged,

@@ -1,6 +1,6 @@
 //! The comparison notices every wrong bench, and so do the figures.
 
-use harness::mutants::{Mutant, ASKED_FOR, FURTHER};
+use harness::mutants::{Mutant, LIKELY, RARER};
 use harness::{compare, figures, settings, Model};
 
 /// Calls within which a fault must show.
@@ -9,7 +9,7 @@ const WITHIN: u64 = 100_000;
 #[test]
 fn comparison_notices_every_fault() {
     let seed = settings::seed();
-    for fault in ASKED_FOR.into_iter().chain(FURTHER) {
+    for fault in LIKELY.into_iter().chain(RARER) {
         let mut latest = 0;
         for offset in 0..5 {
             let found = compare(&Model, &Mutant(fault), WITHIN, seed.wrapping_add(offset))
@@ -22,7 +22,7 @@ fn comparison_notices_every_fault() {
 
 #[test]
 fn figures_notice_every_fault() {
-    for fault in ASKED_FOR.into_iter().chain(FURTHER) {
+    for fault in LIKELY.into_iter().chain(RARER) {
         let outcome = std::panic::catch_unwind(|| figures::all(&Mutant(fault)));
         assert!(outcome.is_err(), "{fault:?} passes every figure");
     }
