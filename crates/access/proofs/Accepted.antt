@@ -13,26 +13,13 @@ use Rattle.registers.specs.Addresses.{channelCount}
 use Rattle.frame.specs.Frame.{frameLength, frameMark}
 use Rattle.frame.specs.Reading.{leadingBits, isFrame}
 use Rattle.ads1299.specs.declared.Converter.{Converter}
-use Rattle.ads1299.specs.Owners.{largestParty}
+use Rattle.parties.specs.Parties.{largestParty}
 use Rattle.ads1299.specs.Validity.{valid}
-use Rattle.access.specs.Parties.{knownParty, isAdmin, owns}
-use Rattle.access.specs.Channels.{isChannel}
+use Rattle.parties.specs.Parties.{knownParty, isAdmin}
+use Rattle.parties.specs.Owners.{owns}
+use Rattle.parties.specs.Channels.{isChannel}
 use Rattle.access.specs.Grant.{grantRefusals, grantRefusal}
 use Rattle.access.specs.Reading.{readingRefusals, readingRefusal}
-
-pub record Bounds (channel : ℕ) : Type 0 where
-  pub low : 1 ≤ channel
-  pub high : channel ≤ channelCount
-
-pub bounds : (channel : ℕ) → isChannel channel ≡ true → Bounds channel
-unfolding isChannel
-bounds channel e =
-    let b = and-both (leb 1 channel) (leb channel channelCount) e in
-    record { low = leb-true _ _ (b .0); high = leb-true _ _ (b .1) }
-
-pub party-bound : (party : ℕ) → knownParty party ≡ true → party ≤ largestParty
-unfolding knownParty
-party-bound party e = leb-true _ _ e
 
 pub frame-whole : (frame : List ℕ) → isFrame frame ≡ true → length frame ≡ frameLength
 unfolding isFrame

@@ -6,12 +6,13 @@ use Rattle.frame.specs.Reading.{leadingBits, isFrame, channelBytes, codeAt, sta
 use Rattle.ads1299.specs.Registers.{powerUp}
 use Rattle.ads1299.specs.PowerUp.{validId, restored, poweredUp}
 use Rattle.ads1299.specs.Validity.{validConverter, valid}
-use Rattle.access.specs.Parties.{knownParty, isAdmin, ownerOf, owns}
-use Rattle.access.specs.Channels.{isChannel}
+use Rattle.parties.specs.Parties.{knownParty, isAdmin}
+use Rattle.parties.specs.Owners.{ownerOf, owns}
+use Rattle.parties.specs.Channels.{isChannel}
 use Rattle.access.specs.Grant.{grantRefusal, reassigned, granted}
 use Rattle.access.specs.Reading.{readingRefusal, channelReading, partBytes}
 use Rattle.access.specs.Figures.{FiguresHold}
 
 pub figures-hold : FiguresHold
-unfolding codeOf word bit wordAt leadingBits isFrame channelBytes codeAt statusP statusN leadOffP leadOffN powerUp validId restored poweredUp validConverter valid knownParty isAdmin ownerOf owns isChannel grantRefusal reassigned granted readingRefusal channelReading partBytes
+unfolding codeOf word bit wordAt leadingBits isFrame channelBytes codeAt statusP statusN leadOffP leadOffN powerUp validId restored poweredUp validConverter valid knownParty isAdmin ownerOf owns grantRefusal reassigned granted readingRefusal channelReading partBytes
 figures-hold = refl

@@ -14,24 +14,21 @@ use Rattle.refusal.specs.First.{accepted}
 use Rattle.registers.specs.Addresses.{channelCount}
 use Rattle.ads1299.specs.declared.Converter.{Converter}
 use Rattle.ads1299.specs.declared.Moved.{Moved}
-use Rattle.ads1299.specs.Owners.{largestParty, knownOwners}
+use Rattle.parties.specs.Parties.{largestParty}
+use Rattle.parties.specs.Owners.{knownOwners}
 use Rattle.ads1299.specs.State.{withOwners}
 use Rattle.ads1299.specs.Deselect.{moved}
 use Rattle.ads1299.specs.Validity.{valid}
 use Rattle.ads1299.proofs.ValidState.{parts, whole}
-use Rattle.access.specs.Parties.{knownParty, ownerOf}
-use Rattle.access.specs.Channels.{isChannel}
+use Rattle.parties.specs.Parties.{knownParty}
+use Rattle.parties.specs.Owners.{ownerOf}
+use Rattle.parties.specs.Channels.{isChannel}
 use Rattle.access.specs.Grant.{grantRefusal, reassigned, granted}
 use Rattle.access.specs.Claims.{GrantKeepsValid, GrantMovesOneOwner}
-use Rattle.access.proofs.Accepted.{bounds, grantable}
+use Rattle.parties.proofs.Bounds.{bounds}
+use Rattle.parties.proofs.Owners.{set-known}
+use Rattle.access.proofs.Accepted.{grantable}
 use Rattle.access.proofs.Refusals.{grant-number}
-
-set-known : (owners : List ℕ) (i receiver : ℕ) → knownOwners owners ≡ true → leb receiver largestParty ≡ true → knownOwners (set owners i receiver) ≡ true
-set-known [] i receiver k r = refl
-set-known (x ∷ xs) zero receiver k r = rw r (and-both (leb x largestParty) (knownOwners xs) k .1)
-set-known (x ∷ xs) (suc i) receiver k r =
-    let b = and-both (leb x largestParty) (knownOwners xs) k in
-    rw (b .0) (set-known xs i receiver (b .1) r)
 
 reassigned-valid : (s : Converter) (channel receiver : ℕ) → valid s ≡ true → knownParty receiver ≡ true → valid (reassigned s channel receiver) ≡ true
 unfolding reassigned knownParty

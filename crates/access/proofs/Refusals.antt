@@ -13,7 +13,8 @@ use Rattle.ads1299.specs.declared.Converter.{Converter}
 use Rattle.access.specs.Grant.{grantRefusal, granted}
 use Rattle.access.specs.Reading.{readingRefusal, channelReading, partBytes}
 use Rattle.access.specs.Claims.{ThreeOrNone}
-use Rattle.access.proofs.Accepted.{bounds, frame-whole, readable}
+use Rattle.parties.proofs.Bounds.{bounds}
+use Rattle.access.proofs.Accepted.{frame-whole, readable}
 
 pub grant-number : (s : Converter) (caller receiver channel : ℕ) → granted s caller receiver channel .refusal ≡ grantRefusal s caller receiver channel
 unfolding granted

@@ -1,6 +1,6 @@
 -- A channel's owner reads what was sampled. Assumes nothing.
 use Prim.Native.Nat.{ℕ, zero, suc, _+_, _-_, _<_}
-use mathlib.Core.Path.{_≡_, refl, _∙_, ap}
+use mathlib.Core.Path.{_≡_, refl, sym, _∙_, ap}
 use mathlib.Core.Bool.{true}
 use mathlib.Core.List.{List, [], _∷_}
 use native.Mathlib.Omega.{arith}
@@ -21,21 +21,19 @@ use Rattle.frame.specs.RoundTrip.{ReadsBack}
 use Rattle.frame.proofs.RoundTrip.{frames-read-back}
 use Rattle.ads1299.specs.declared.Converter.{Converter}
 use Rattle.ads1299.specs.declared.Moved.{Moved}
-use Rattle.ads1299.specs.Owners.{largestParty, knownOwners}
+use Rattle.parties.specs.Parties.{largestParty}
+use Rattle.parties.specs.Owners.{knownOwners}
 use Rattle.ads1299.specs.Validity.{valid}
 use Rattle.ads1299.specs.Sample.{complete, sampleRefusals, sampleRefusal, withStatus, framed, taken, sampled}
 use Rattle.ads1299.proofs.ValidState.{parts, whole}
 use Rattle.ads1299.proofs.StaysValid.{taken-valid}
-use Rattle.access.specs.Parties.{knownParty, ownerOf, owns}
-use Rattle.access.specs.Channels.{isChannel}
+use Rattle.parties.specs.Parties.{knownParty}
+use Rattle.parties.specs.Owners.{ownerOf, owns}
+use Rattle.parties.specs.Channels.{isChannel}
 use Rattle.access.specs.Reading.{readingRefusal, channelReading, partBytes}
 use Rattle.access.specs.Claims.{ReadsSample, SamplesReadBack}
-use Rattle.access.proofs.Accepted.{bounds}
-
-known-at : (owners : List ℕ) (i : ℕ) → knownOwners owners ≡ true → leb (getD owners i 0) largestParty ≡ true
-known-at [] i k = refl
-known-at (x ∷ xs) zero k = and-both (leb x largestParty) (knownOwners xs) k .0
-known-at (x ∷ xs) (suc i) k = known-at xs i (and-both (leb x largestParty) (knownOwners xs) k .1)
+use Rattle.parties.proofs.Bounds.{bounds}
+use Rattle.parties.proofs.Owners.{known-at}
 
 -- P and N go to their two registers and to no other
 status-other : (registers : List ℕ) (p n i : ℕ) → (i ≡ LOFF_STATP → ⊥) → (i ≡ LOFF_STATN → ⊥) → getD (withStatus registers p n) i 0 ≡ getD registers i 0
@@ -54,7 +52,7 @@ module _ (s : Converter) (party channel : ℕ) (v : valid s ≡ true) (c : isCha
   unfolding readingRefusal knownParty ownerOf owns
   owner-accepted frame f =
       let k : leb party largestParty ≡ true = rw o at (known-at (s .owners) (channel - 1) (parts s v .owners)) in
-      simp (v, k, c, eq-eqb _ _ o, f)
+      simp (v, k, c, eq-eqb _ _ (sym o), f)
 
   owner-reads : (registers : List ℕ) (codes : List ℤ) (p n : ℕ) → ReadsBack registers codes p n (s .latest) → ReadsSample registers codes p n party channel s
   unfolding channelReading partBytes

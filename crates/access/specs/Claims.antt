@@ -18,8 +18,8 @@ use Rattle.ads1299.specs.declared.Moved.{Moved}
 use Rattle.ads1299.specs.State.{withOwners}
 use Rattle.ads1299.specs.Validity.{valid}
 use Rattle.ads1299.specs.Sample.{sampled}
-use Rattle.access.specs.Parties.{ownerOf}
-use Rattle.access.specs.Channels.{isChannel}
+use Rattle.parties.specs.Owners.{ownerOf}
+use Rattle.parties.specs.Channels.{isChannel}
 use Rattle.access.specs.Grant.{granted}
 use Rattle.access.specs.Reading.{reading, channelReading, partBytes, partPlace}
 

@@ -10,8 +10,8 @@ use Rattle.ads1299.specs.declared.Moved.{Moved}
 use Rattle.ads1299.specs.State.{withOwners}
 use Rattle.ads1299.specs.Validity.{valid}
 use Rattle.ads1299.specs.Deselect.{moved}
-use Rattle.access.specs.Parties.{knownParty, isAdmin}
-use Rattle.access.specs.Channels.{isChannel}
+use Rattle.parties.specs.Parties.{knownParty, isAdmin}
+use Rattle.parties.specs.Channels.{isChannel}
 
 -- the refusals of a grant, in the order in which they are tried
 abbrev pub grantRefusals : Converter → ℕ → ℕ → ℕ → List (Bool × ℕ)

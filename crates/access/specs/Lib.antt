@@ -1,5 +1,3 @@
-pub mod Parties
-pub mod Channels
 pub mod Grant
 pub mod Reading
 pub mod Claims

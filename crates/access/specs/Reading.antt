@@ -9,8 +9,9 @@ use Rattle.frame.specs.Reading.{isFrame, channelBytes, codeAt, leadOffP, leadOf
 use Rattle.ads1299.specs.declared.Converter.{Converter}
 use Rattle.ads1299.specs.Validity.{valid}
 use Rattle.access.specs.declared.Reading.{Reading}
-use Rattle.access.specs.Parties.{knownParty, owns}
-use Rattle.access.specs.Channels.{isChannel}
+use Rattle.parties.specs.Parties.{knownParty}
+use Rattle.parties.specs.Owners.{owns}
+use Rattle.parties.specs.Channels.{isChannel}
 
 -- the refusals of a reading, in the order in which they are tried
 abbrev pub readingRefusals : Converter → ℕ → ℕ → List ℕ → List (Bool × ℕ)

@@ -1,10 +1,9 @@
 // Grants: the administrator moves a channel to another owner.
 ghost use mathlib.Core.Path.{_≡_};
 ghost use mathlib.Core.Bool.{true};
-ghost use Rattle.access.specs.Parties.{knownParty};
-ghost use Rattle.access.specs.Channels.{isChannel};
+ghost use Rattle.parties.specs.Parties.{knownParty};
+ghost use Rattle.parties.specs.Channels.{isChannel};
 ghost use Rattle.access.specs.Grant.{grantRefusal, reassigned, granted};
-use super::parties;
 use ads1299::Converter;
 use ads1299::Moved;
 

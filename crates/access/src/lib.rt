@@ -1,6 +1,5 @@
 // Who may do what with a channel: the administrator grants it, its owner reads it.
 mod grants;
-mod parties;
 mod readings;
 
 pub use grants::grant;

@@ -1,28 +1,11 @@
 // Readings: what a channel's owner sees of a frame.
 ghost use mathlib.Core.Path.{_≡_};
-ghost use mathlib.Core.Bool.{true};
 ghost use Prim.Native.Nat.{_+_};
-ghost use Rattle.access.specs.Parties.{ownerOf, owns};
-ghost use Rattle.access.specs.Channels.{isChannel};
+ghost use Rattle.parties.specs.Owners.{ownerOf, owns};
+ghost use Rattle.parties.specs.Channels.{isChannel};
 ghost use Rattle.access.specs.Reading.{readingRefusal, channelReading, partBytes, partPlace};
-use super::parties;
 use crate::Reading;
 use ads1299::Converter;
-
-fn owner(owners: [u8; registers::CHANNELS], channel: u32) -> u8
-    requires { ⌜ isChannel channel ≡ true ⌝ }
-    ensures { λ r. ⌜ r ≡ ownerOf owners channel ⌝ }
-{
-    let at = (channel - 1) as usize;
-    owners[at]
-}
-
-fn is_owner(owners: [u8; registers::CHANNELS], party: u32, channel: u32) -> bool
-    requires { ⌜ isChannel channel ≡ true ⌝ }
-    ensures { λ r. ⌜ r ≡ owns owners party channel ⌝ }
-{
-    owner(owners, channel) as u32 == party
-}
 
 // The tests in the order of document 01: the owner before the frame.
 fn refuse_reading(converter: Converter, party: u32, channel: u32, frame: &[u8]) -> u8
@@ -38,7 +21,7 @@ fn refuse_reading(converter: Converter, party: u32, channel: u32, frame: &[u8]) 
         return refusal::WRONG_CHANNEL;
     }
     let owners = converter.owners;
-    if !is_owner(owners, party, channel) {
+    if !parties::is_owner(owners, party, channel) {
         return refusal::NOT_OWNER;
     }
     if !frame::is_frame(frame) {

@@ -1,7 +1,7 @@
 -- The runs of bytes come out as worked by hand, by computation. Assumes nothing.
 use mathlib.Core.Path.{refl}
 use Rattle.bits.specs.Fields.{field, masked}
-use Rattle.protocol.specs.Commands.{registerCommand, decoded, acts}
+use Rattle.commands.specs.Commands.{registerCommand, decoded, acts}
 use Rattle.protocol.specs.Transfers.{begun, remainder, countable}
 use Rattle.ads1299.specs.Registers.{powerUp, masks, registerAt, written}
 use Rattle.ads1299.specs.PowerUp.{validId, restored, poweredUp}

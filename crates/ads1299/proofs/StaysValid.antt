@@ -20,15 +20,15 @@ use Rattle.protocol.specs.declared.Direction.{Direction}
 use Rattle.protocol.specs.declared.Direction.the-variants.{Read, Write}
 use Rattle.protocol.specs.declared.Phase.{Phase}
 use Rattle.protocol.specs.declared.Phase.the-variants.{Waiting, Held, Counting}
-use Rattle.protocol.specs.declared.Command.{Command}
-use Rattle.protocol.specs.declared.Command.the-variants.{Wakeup, Standby, Reset, Start, Stop, Rdatac, Sdatac, Rdata, Rreg, Wreg, Unlisted}
+use Rattle.commands.specs.declared.Command.{Command}
+use Rattle.commands.specs.declared.Command.the-variants.{Wakeup, Standby, Reset, Start, Stop, Rdatac, Sdatac, Rdata, Rreg, Wreg, Unlisted}
 use Rattle.ads1299.specs.PowerUp.{validId, restored}
 use Rattle.ads1299.specs.Registers.{powerUp, masks, written}
 use Rattle.ads1299.specs.declared.Moved.{Moved}
 use Rattle.ads1299.specs.State.{withPhase}
-use Rattle.protocol.specs.Commands.{decoded, acts}
+use Rattle.commands.specs.Commands.{decoded, acts}
 use Rattle.protocol.specs.Output.{validPlace}
-use Rattle.protocol.proofs.Commands.{lowAddress, decoded-low}
+use Rattle.commands.proofs.Commands.{lowAddress, decoded-low}
 use Rattle.protocol.proofs.Transfers.{begun-valid, remainder-valid}
 use Rattle.protocol.proofs.OutputPlace.{advanced-valid}
 use Rattle.ads1299.specs.Output.{readBack, emptied, ignored}

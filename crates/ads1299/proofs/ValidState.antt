@@ -7,7 +7,7 @@ use Rattle.registers.specs.Addresses.{ID}
 use Rattle.ads1299.specs.declared.Converter.{Converter}
 use Rattle.protocol.specs.declared.Transfer.{Transfer}
 use Rattle.protocol.specs.declared.Phase.the-variants.{Counting}
-use Rattle.ads1299.specs.Owners.{knownOwners}
+use Rattle.parties.specs.Owners.{knownOwners}
 use Rattle.ads1299.specs.PowerUp.{validId}
 use Rattle.protocol.specs.Transfers.{countable, validPhase}
 use Rattle.protocol.specs.Output.{validPlace}

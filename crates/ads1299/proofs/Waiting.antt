@@ -15,7 +15,7 @@ use Rattle.protocol.specs.declared.Direction.the-variants.{Read, Write}
 use Rattle.protocol.specs.declared.Output.{Output}
 use Rattle.protocol.specs.declared.Phase.{Phase}
 use Rattle.protocol.specs.declared.Phase.the-variants.{Waiting, Held, Counting}
-use Rattle.protocol.specs.Commands.{registerCommand, decoded, acts}
+use Rattle.commands.specs.Commands.{registerCommand, decoded, acts}
 use Rattle.ads1299.specs.Output.{emptied, ignored}
 use Rattle.protocol.specs.Transfers.{countable, validPhase, begun, remainder}
 use Rattle.protocol.proofs.Transfers.{bounds}

@@ -1,4 +1,3 @@
-pub mod Owners
 pub mod Registers
 pub mod State
 pub mod Formed

@@ -11,7 +11,7 @@ use Rattle.ads1299.specs.declared.Converter.{Converter}
 use Rattle.protocol.specs.declared.Output.the-variants.{Empty}
 use Rattle.protocol.specs.declared.Phase.the-variants.{Waiting}
 use Rattle.ads1299.specs.declared.PoweredUp.{PoweredUp}
-use Rattle.ads1299.specs.Owners.{admin}
+use Rattle.parties.specs.Parties.{admin}
 use Rattle.ads1299.specs.Registers.{powerUp}
 use Rattle.ads1299.specs.State.{state}
 

@@ -12,12 +12,12 @@ use Rattle.protocol.specs.declared.Direction.the-variants.{Read, Write}
 use Rattle.protocol.specs.declared.Output.the-variants.{At}
 use Rattle.protocol.specs.declared.Phase.{Phase}
 use Rattle.protocol.specs.declared.Phase.the-variants.{Waiting, Held, Counting}
-use Rattle.protocol.specs.declared.Command.{Command}
-use Rattle.protocol.specs.declared.Command.the-variants.{Wakeup, Standby, Reset, Start, Stop, Rdatac, Sdatac, Rdata, Rreg, Wreg, Unlisted}
+use Rattle.commands.specs.declared.Command.{Command}
+use Rattle.commands.specs.declared.Command.the-variants.{Wakeup, Standby, Reset, Start, Stop, Rdatac, Sdatac, Rdata, Rreg, Wreg, Unlisted}
 use Rattle.ads1299.specs.Registers.{registerAt, written}
 use Rattle.ads1299.specs.State.{withRegisters, withOutput, withContinuous, withStandby, withConverting, withShifting, withPhase}
 use Rattle.ads1299.specs.PowerUp.{restored}
-use Rattle.protocol.specs.Commands.{decoded, acts}
+use Rattle.commands.specs.Commands.{decoded, acts}
 use Rattle.protocol.specs.Transfers.{transfer, begun, remainder}
 use Rattle.protocol.specs.Output.{pending}
 use Rattle.ads1299.specs.Output.{emptied, ignored}

@@ -5,7 +5,7 @@ use Rattle.registers.specs.Addresses.{ID}
 use Rattle.protocol.specs.Transfers.{validPhase}
 use Rattle.protocol.specs.Output.{isEmpty, validPlace}
 use Rattle.ads1299.specs.declared.Converter.{Converter}
-use Rattle.ads1299.specs.Owners.{knownOwners}
+use Rattle.parties.specs.Owners.{knownOwners}
 use Rattle.ads1299.specs.PowerUp.{validId}
 
 -- a command may stand half given: in command mode, awake, with nothing pending

@@ -8,10 +8,6 @@ mod validity;
 use protocol::Output;
 use protocol::Phase;
 
-pub const ADMIN: u8 = 0; // document 01: the keeper
-
-pub const LARGEST_PARTY: u8 = 8;
-
 // The order of the fields keeps each array at a multiple of 16 bytes.
 pub struct Converter {
     pub registers: [u8; registers::COUNT],

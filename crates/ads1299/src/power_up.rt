@@ -92,7 +92,7 @@ impl Converter {
     pub fn power_up(id: u8) -> PoweredUp
         ensures { λ r. ⌜ r ≡ poweredUp id ⌝ }
     {
-        let owners = [crate::ADMIN; registers::CHANNELS];
+        let owners = [parties::ADMIN; registers::CHANNELS];
         if Self::is_valid_id(id) {
             let converter = Self::restore(id, owners);
             PoweredUp {

@@ -11,7 +11,7 @@ ghost use Rattle.ads1299.specs.Deselect.{deselected};
 use crate::Converter;
 use crate::Moved;
 use crate::Stepped;
-use protocol::Command;
+use commands::Command;
 use protocol::Direction;
 use protocol::Output;
 use protocol::Phase;
@@ -81,22 +81,25 @@ impl Converter {
         }))
     }
 
-    fn with_standby(self, standby: bool) -> Converter
+    fn with_standby(mut self, standby: bool) -> Converter
         ensures { λ r. ⌜ r ≡ withStandby self standby ⌝ }
     {
-        Converter { standby, ..self }
+        self.standby = standby;
+        self
     }
 
-    fn with_converting(self, converting: bool) -> Converter
+    fn with_converting(mut self, converting: bool) -> Converter
         ensures { λ r. ⌜ r ≡ withConverting self converting ⌝ }
     {
-        Converter { converting, ..self }
+        self.converting = converting;
+        self
     }
 
-    fn with_continuous(self, continuous: bool) -> Converter
+    fn with_continuous(mut self, continuous: bool) -> Converter
         ensures { λ r. ⌜ r ≡ withContinuous self continuous ⌝ }
     {
-        Converter { continuous, ..self }
+        self.continuous = continuous;
+        self
     }
 
     fn reset(self) -> Converter
@@ -140,7 +143,7 @@ impl Converter {
     fn command(self, command: Command) -> Converter
         ensures { λ r. ⌜ r ≡ commanded self command ⌝ }
     {
-        if protocol::does_act(command, self.standby, self.continuous, self.converting) {
+        if commands::does_act(command, self.standby, self.continuous, self.converting) {
             self.empty().perform(command)
         } else {
             self.ignore()
@@ -206,7 +209,7 @@ impl Converter {
     {
         let phase = self.phase;
         match phase {
-            Phase::Waiting => self.command(protocol::decode(byte)),
+            Phase::Waiting => self.command(commands::decode(byte)),
             Phase::Held(transfer) => self.with_phase(protocol::begin(transfer, byte)),
             Phase::Counting(transfer) => self.count(transfer, byte),
         }

@@ -1,24 +1,10 @@
 // Refusal 13: whether a converter can be in the state that it is said to be in.
 ghost use mathlib.Core.Path.{_≡_};
-ghost use Rattle.ads1299.specs.Owners.{knownOwners};
 ghost use Rattle.ads1299.specs.Validity.{interruptible, valid};
 use crate::Converter;
 use protocol::Output;
 
 impl Converter {
-    fn are_known(owners: [u8; registers::CHANNELS]) -> bool
-        ensures { λ r. ⌜ r ≡ knownOwners owners ⌝ }
-    {
-        let mut i: usize = 0;
-        while i < registers::CHANNELS {
-            if crate::LARGEST_PARTY < owners[i] {
-                return false;
-            }
-            i += 1;
-        }
-        true
-    }
-
     // Whether a command may stand half given: in command mode, awake, with nothing pending.
     fn is_interruptible(self) -> bool
         ensures { λ r. ⌜ r ≡ interruptible self ⌝ }
@@ -47,7 +33,7 @@ impl Converter {
         if Self::is_valid_id(registers[registers::ID]) {
             if protocol::is_valid_place(output) {
                 if protocol::is_valid_phase(phase, self.is_interruptible()) {
-                    return Self::are_known(owners);
+                    return parties::are_known(owners);
                 }
             }
         }

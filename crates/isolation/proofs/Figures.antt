@@ -5,7 +5,8 @@ use Rattle.protocol.specs.Transfers.{countable}
 use Rattle.ads1299.specs.Registers.{powerUp}
 use Rattle.ads1299.specs.PowerUp.{validId, restored, poweredUp}
 use Rattle.ads1299.specs.Validity.{validConverter, valid}
-use Rattle.access.specs.Parties.{knownParty, ownerOf}
+use Rattle.parties.specs.Parties.{knownParty}
+use Rattle.parties.specs.Owners.{ownerOf}
 use Rattle.settings.specs.Table.{table, rowOf}
 use Rattle.settings.specs.Names.{named}
 use Rattle.settings.specs.Places.{place}

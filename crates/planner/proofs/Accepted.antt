@@ -18,8 +18,8 @@ use Rattle.ads1299.specs.declared.Converter.{Converter}
 use Rattle.ads1299.specs.Formed.{Formed}
 use Rattle.ads1299.specs.Validity.{valid}
 use Rattle.ads1299.proofs.ValidState.{parts, whole}
-use Rattle.access.specs.Parties.{knownParty}
-use Rattle.settings.specs.Names.{isField, isChannel, named}
+use Rattle.parties.specs.Parties.{knownParty}
+use Rattle.settings.specs.Names.{isField, takesChannel, named}
 use Rattle.settings.specs.Places.{place}
 use Rattle.settings.specs.Values.{legal, settable}
 use Rattle.settings.specs.Registers.{withField, fieldByte}
@@ -51,7 +51,7 @@ passed s x e =
     let r = x .request in
     let c = exact (refusals s (λ f n. 0) x) refl .refuses (eqb-true (refusalOf s x) 0 e) in
     let name : named (r .field) (r .channel) ≡ true =
-    rw (not-false (isField (r .field)) (c .1 .1 .0), not-false (isChannel (r .field) (r .channel)) (c .1 .1 .1 .0)) in
+    rw (not-false (isField (r .field)) (c .1 .1 .0), not-false (takesChannel (r .field) (r .channel)) (c .1 .1 .1 .0)) in
     let value = not-false (legal (r .field) (r .value)) (c .1 .1 .1 .1 .1 .0) in
     record {
       state = not-false (valid s) (c .0);

@@ -4,7 +4,7 @@ use Rattle.bits.specs.Fields.{field, inserted, masked}
 use Rattle.frame.specs.Codes.{wordOf, codeOf}
 use Rattle.frame.specs.Words.{bit, word, wordBytes, wordAt, joined}
 use Rattle.frame.specs.Frame.{statusWord, poweredDown, shown, frameWord, frameOf}
-use Rattle.protocol.specs.Commands.{registerCommand, decoded, acts}
+use Rattle.commands.specs.Commands.{registerCommand, decoded, acts}
 use Rattle.protocol.specs.Transfers.{begun, remainder, countable}
 use Rattle.ads1299.specs.Registers.{powerUp, masks, registerAt, written}
 use Rattle.ads1299.specs.PowerUp.{validId, restored, poweredUp}
@@ -12,7 +12,8 @@ use Rattle.ads1299.specs.Output.{emptied, ignored}
 use Rattle.ads1299.specs.Validity.{validConverter, valid}
 use Rattle.ads1299.specs.Step.{effect, commanded, counted, outgoing, followed, stepped}
 use Rattle.ads1299.specs.Run.{after, outs}
-use Rattle.access.specs.Parties.{knownParty, ownerOf}
+use Rattle.parties.specs.Parties.{knownParty}
+use Rattle.parties.specs.Owners.{ownerOf}
 use Rattle.settings.specs.Table.{table, rowOf}
 use Rattle.settings.specs.Names.{named}
 use Rattle.settings.specs.Places.{place}

@@ -18,13 +18,13 @@ use Rattle.protocol.specs.declared.Output.the-variants.{Empty}
 use Rattle.protocol.specs.declared.Phase.{Phase}
 use Rattle.protocol.specs.declared.Phase.the-variants.{Waiting, Held, Counting}
 use Rattle.protocol.specs.declared.Direction.the-variants.{Write}
-use Rattle.protocol.specs.declared.Command.the-variants.{Wreg}
-use Rattle.protocol.specs.Opcodes.{WAKEUP, STANDBY, RDATAC, SDATAC, WREG}
-use Rattle.protocol.specs.Commands.{registerCommand, decoded, acts}
+use Rattle.commands.specs.declared.Command.the-variants.{Wreg}
+use Rattle.commands.specs.Opcodes.{WAKEUP, STANDBY, RDATAC, SDATAC, WREG}
+use Rattle.commands.specs.Commands.{registerCommand, decoded, acts}
 use Rattle.protocol.specs.Transfers.{transfer, begun, remainder}
 use Rattle.protocol.specs.Output.{validPlace}
 use Rattle.ads1299.specs.declared.Converter.{Converter}
-use Rattle.ads1299.specs.Owners.{knownOwners}
+use Rattle.parties.specs.Owners.{knownOwners}
 use Rattle.ads1299.specs.PowerUp.{validId}
 use Rattle.ads1299.specs.Registers as registers
 use Rattle.ads1299.specs.Registers.{masks}

@@ -19,7 +19,7 @@ use Rattle.ads1299.specs.declared.Converter.{Converter}
 use Rattle.ads1299.specs.declared.PoweredUp.{PoweredUp}
 use Rattle.ads1299.specs.declared.Stepped.{Stepped}
 use Rattle.ads1299.specs.declared.Moved.{Moved}
-use Rattle.ads1299.specs.Owners.{admin}
+use Rattle.parties.specs.Parties.{admin}
 use Rattle.ads1299.specs.PowerUp.{validId, restored, poweredUp}
 use Rattle.ads1299.specs.Validity.{valid}
 use Rattle.ads1299.specs.Step.{stepped}

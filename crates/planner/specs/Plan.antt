@@ -4,7 +4,7 @@ use mathlib.Core.Bool.{Bool, true, false}
 use mathlib.Core.List.{List, [], _∷_, _++_}
 use lib.ListN.{length}
 use Rattle.request.specs.declared.Request.{Request}
-use Rattle.protocol.specs.Opcodes.{WAKEUP, STANDBY, RDATAC, SDATAC, WREG}
+use Rattle.commands.specs.Opcodes.{WAKEUP, STANDBY, RDATAC, SDATAC, WREG}
 use Rattle.ads1299.specs.declared.Converter.{Converter}
 use Rattle.settings.specs.Places.{place}
 use Rattle.settings.specs.Registers.{fieldByte}

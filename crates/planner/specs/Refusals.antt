@@ -7,10 +7,11 @@ use Rattle.refusal.specs.Numbers.{unknownParty, unknownField, wrongChannel, not
 use Rattle.refusal.specs.First.{firstOf}
 use Rattle.protocol.specs.Transfers.{isWaiting}
 use Rattle.ads1299.specs.declared.Converter.{Converter}
-use Rattle.ads1299.specs.Owners.{admin}
+use Rattle.parties.specs.Parties.{admin}
 use Rattle.ads1299.specs.Validity.{valid}
-use Rattle.access.specs.Parties.{knownParty, ownerOf}
-use Rattle.settings.specs.Names.{isField, channelField, isChannel}
+use Rattle.parties.specs.Parties.{knownParty}
+use Rattle.parties.specs.Owners.{ownerOf}
+use Rattle.settings.specs.Names.{isField, channelField, takesChannel}
 use Rattle.settings.specs.Values.{legal}
 use Rattle.planner.specs.Submission.{Submission}
 use Rattle.planner.specs.Plan.{planLength}
@@ -29,7 +30,7 @@ refusals s values x =
     (not (valid s), invalidState)
     ∷ (not (knownParty (x .party)), unknownParty)
     ∷ (not (isField (x .request .field)), unknownField)
-    ∷ (not (isChannel (x .request .field) (x .request .channel)), wrongChannel)
+    ∷ (not (takesChannel (x .request .field) (x .request .channel)), wrongChannel)
     ∷ (not (eqb (x .party) (fieldOwner (s .owners) (x .request .field) (x .request .channel))), notOwner)
     ∷ (not (legal (x .request .field) (x .request .value)), badValue)
     ∷ (not (isWaiting (s .phase)), notWaiting)

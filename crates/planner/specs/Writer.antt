@@ -3,7 +3,7 @@ use Prim.Native.Nat.{ℕ}
 use mathlib.Core.Bool.{Bool}
 use mathlib.Core.List.{List, _++_}
 use lib.ListN.{length, drop}
-use Rattle.protocol.specs.Opcodes.{WAKEUP, STANDBY, RDATAC, SDATAC}
+use Rattle.commands.specs.Opcodes.{WAKEUP, STANDBY, RDATAC, SDATAC}
 use Rattle.planner.specs.Plan.{only, writing}
 
 -- gives the bytes that write one register, from standby and continuous mode as they are, and back to them

@@ -1,5 +1,4 @@
 // From a setting request to the bytes that the converter is sent.
-ghost use mathlib.Core.Bool.{true};
 ghost use mathlib.Core.Path.{_≡_};
 ghost use Prim.Native.Nat.{_<_, _≤_};
 ghost use lib.Dec.{eqb};
@@ -8,8 +7,6 @@ ghost use Rattle.registers.specs.Addresses.{registerCount};
 ghost use Rattle.protocol.specs.Transfers.{isWaiting};
 ghost use Rattle.ads1299.specs.State.{withRegisters, withOutput};
 ghost use Rattle.ads1299.specs.Formed.{Formed};
-ghost use Rattle.access.specs.Parties.{knownParty};
-ghost use Rattle.settings.specs.Names.{isChannel};
 ghost use Rattle.settings.specs.Registers.{withField};
 ghost use Rattle.planner.specs.Submission.{roomAt, submission};
 ghost use Rattle.planner.specs.Refusals.{fieldOwner};
@@ -35,31 +32,15 @@ pub struct Answer {
     pub length: usize,
 }
 
-fn is_known_party(party: u32) -> bool
-    ensures { λ r. ⌜ r ≡ knownParty party ⌝ }
-{
-    party <= ads1299::LARGEST_PARTY as u32
-}
-
 // The owner of a channel field is the channel's, that of a shared field the administrator.
-fn field_owner(owners: [u8; registers::CHANNELS], field: u32, channel: u32) -> u8
-    requires { ⌜ isChannel field channel ≡ true ⌝ }
-    ensures { λ r. ⌜ r ≡ fieldOwner owners field channel ⌝ }
-{
-    if settings::is_channel_field(field) {
-        let at = (channel - 1) as usize;
-        owners[at]
-    } else {
-        ads1299::ADMIN
-    }
-}
-
-// The party is the field's owner; compared whole, and never cut to a byte before.
 fn is_field_owner(owners: [u8; registers::CHANNELS], party: u32, field: u32, channel: u32) -> bool
-    requires { ⌜ isChannel field channel ≡ true ⌝ }
     ensures { λ r. ⌜ r ≡ eqb party (fieldOwner owners field channel) ⌝ }
 {
-    party == field_owner(owners, field, channel) as u32
+    if settings::is_channel_field(field) {
+        parties::is_owner(owners, party, channel)
+    } else {
+        parties::is_admin(party)
+    }
 }
 
 fn is_waiting(phase: Phase) -> bool
@@ -97,13 +78,13 @@ fn refuse(c: Converter, party: u32, request: Request, room: usize) -> u8
     if !c.is_valid() {
         return refusal::INVALID_STATE;
     }
-    if !is_known_party(party) {
+    if !parties::is_known(party) {
         return refusal::UNKNOWN_PARTY;
     }
     if !settings::is_field(request.field) {
         return refusal::UNKNOWN_FIELD;
     }
-    if !settings::is_channel(request.field, request.channel) {
+    if !settings::takes_channel(request.field, request.channel) {
         return refusal::WRONG_CHANNEL;
     }
     let owners = c.owners;
@@ -138,25 +119,25 @@ fn write_plan(part: &mut [u8], standby: bool, continuous: bool, address: u8, byt
     ensures { λ r. ⌜ (r ≡ length (planBytes standby continuous address byte))
         × (now (part .exit) ≡ overlaid (now (part .entry)) (planBytes standby continuous address byte)) ⌝ }
 {
-    let command = protocol::WREG + address;
+    let command = commands::WREG + address;
     if standby {
         if continuous {
             let plan = [
-                protocol::WAKEUP,
-                protocol::SDATAC,
+                commands::WAKEUP,
+                commands::SDATAC,
                 command,
                 0,
                 byte,
-                protocol::RDATAC,
-                protocol::STANDBY,
+                commands::RDATAC,
+                commands::STANDBY,
             ];
             return put(part, &plan);
         }
-        let plan = [protocol::WAKEUP, command, 0, byte, protocol::STANDBY];
+        let plan = [commands::WAKEUP, command, 0, byte, commands::STANDBY];
         return put(part, &plan);
     }
     if continuous {
-        let plan = [protocol::SDATAC, command, 0, byte, protocol::RDATAC];
+        let plan = [commands::SDATAC, command, 0, byte, commands::RDATAC];
         return put(part, &plan);
     }
     let plan = [command, 0, byte];

@@ -1,4 +1,2 @@
-pub mod Opcodes
-pub mod Commands
 pub mod Transfers
 pub mod Output

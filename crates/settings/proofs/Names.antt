@@ -9,16 +9,17 @@ use Rattle.cases.specs.Below.{below}
 use Rattle.cases.proofs.Cases.{split, and-both}
 use Rattle.cases.proofs.Below.{below-at, below-find}
 use Rattle.registers.specs.Addresses.{channelCount}
-use Rattle.settings.specs.Names.{fieldCount, isField, channelField, isChannel, named, everyName}
+use Rattle.parties.proofs.Bounds.{bounds}
+use Rattle.settings.specs.Names.{fieldCount, isField, channelField, takesChannel, named, everyName}
 
 -- the numbers of a name are within the table
 pub named-range : (f n : ℕ) → named f n ≡ true → (f < fieldCount + 1) × (n < channelCount + 1)
 unfolding named
 named-range f n h =
-    let b = and-both (isField f) (isChannel f n) h in
+    let b = and-both (isField f) (takesChannel f n) h in
     let hf = leb-true f fieldCount (and-both (leb 1 f) (leb f fieldCount) (b .0) .1) in (
       omega arith,
-      split (channelField f) (λ e. omega (arith, leb-true n channelCount (and-both (leb 1 n) (leb n channelCount) (rw e at (b .1)) .1)))
+      split (channelField f) (λ e. omega (arith, bounds n (rw e at (b .1)) .high))
           (λ e. omega (arith, eqb-true n 0 (rw e at (b .1)))),
     )
 

@@ -4,6 +4,7 @@ use Prim.Native.Nat.{ℕ, zero, suc, _+_}
 use lib.Dec.{leb, eqb}
 use Rattle.cases.specs.Below.{below}
 use Rattle.registers.specs.Addresses.{channelCount}
+use Rattle.parties.specs.Channels.{isChannel}
 
 -- fields 1 to 26
 abbrev pub fieldCount : ℕ
@@ -22,12 +23,12 @@ abbrev pub channelField : ℕ → Bool
 channelField f = leb 1 f && leb f channelFieldCount
 
 -- the field is to be named with this channel: a channel's field with its channel, a shared one with 0
-abbrev pub isChannel : ℕ → ℕ → Bool
-isChannel f n = cond (channelField f) (leb 1 n && leb n channelCount) (eqb n 0)
+abbrev pub takesChannel : ℕ → ℕ → Bool
+takesChannel f n = cond (channelField f) (isChannel n) (eqb n 0)
 
 -- the field and the channel name something
 unfoldable pub named : ℕ → ℕ → Bool
-named f n = isField f && isChannel f n
+named f n = isField f && takesChannel f n
 
 -- the test passes at every field and channel that name something
 unfoldable pub everyName : (ℕ → ℕ → Bool) → Bool

@@ -3,7 +3,6 @@
 use registers::BIAS_SENSN;
 use registers::BIAS_SENSP;
 use registers::CH1SET;
-use registers::CHANNELS;
 use registers::CONFIG1;
 use registers::CONFIG2;
 use registers::CONFIG3;
@@ -16,7 +15,7 @@ use registers::MISC1;
 ghost use mathlib.Core.Path.{_≡_};
 ghost use Prim.Native.Nat.{_-_};
 ghost use Rattle.settings.specs.Table.{rowOf, entryOf};
-ghost use Rattle.settings.specs.Names.{isField, channelField, isChannel, named};
+ghost use Rattle.settings.specs.Names.{isField, channelField, takesChannel, named};
 ghost use Rattle.settings.specs.Places.{place};
 ghost use Rattle.settings.specs.Values.{fits, legal, settable};
 ghost use Rattle.settings.specs.Registers.{fieldOf, withField, fieldByte};
@@ -92,15 +91,11 @@ pub fn is_channel_field(field: u32) -> bool
 }
 
 // Whether the field is to be named with this channel.
-pub fn is_channel(field: u32, channel: u32) -> bool
-    ensures { λ r. ⌜ r ≡ isChannel field channel ⌝ }
+pub fn takes_channel(field: u32, channel: u32) -> bool
+    ensures { λ r. ⌜ r ≡ takesChannel field channel ⌝ }
 {
     if is_channel_field(field) {
-        if 1 <= channel {
-            channel as usize <= CHANNELS
-        } else {
-            false
-        }
+        parties::is_channel(channel)
     } else {
         channel == 0
     }
@@ -111,7 +106,7 @@ fn is_named(field: u32, channel: u32) -> bool
     ensures { λ r. ⌜ r ≡ named field channel ⌝ }
 {
     if is_field(field) {
-        is_channel(field, channel)
+        takes_channel(field, channel)
     } else {
         false
     }

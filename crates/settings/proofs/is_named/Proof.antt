@@ -10,5 +10,5 @@ is-named-spec =
     (tie.spec
     (λ c κs. search needs)
     (λ c κs. search needs)
-    (λ c. simp (← c .before .before .is-field .ensures, c .before .if1 .taken, ← c .is-channel .ensures))
+    (λ c. simp (← c .before .before .is-field .ensures, c .before .if1 .taken, ← c .takes-channel .ensures))
     (λ c. simp (← c .before .is-field .ensures, c .if1 .left)))

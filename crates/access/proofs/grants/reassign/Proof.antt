@@ -1,4 +1,4 @@
-use Rattle.access.proofs.Accepted.{bounds, party-bound}
+use Rattle.parties.proofs.Bounds.{bounds, party-bound}
 use Rattle.access.proofs.grants.reassign.Statement.{statement}
 use Rattle.access.proofs.grants.reassign.Tie as tie
 use Rattle.access.specs.Grant.{reassigned}
@@ -11,8 +11,8 @@ unfolding reassigned
 reassign-spec =
     tie.close
     (tie.spec
-    (λ c. let b = bounds _ (c .before .pre .0) in omega arith)
+    (λ c. let b = bounds (c .before .args .channel) (c .before .pre .0) in omega arith)
     (λ c. search needs)
     (λ c. let b = party-bound _ (c .before .pre .1) in omega arith)
-    (λ c. let b = bounds _ (c .before .pre .0) in omega arith)
+    (λ c. let b = bounds (c .before .args .channel) (c .before .pre .0) in omega arith)
     (λ c. refl))

@@ -1,5 +1,6 @@
 use Prim.Native.Nat.{_+_, _-_, _*_}
-use Rattle.access.proofs.Accepted.{bounds, frame-whole, readable}
+use Rattle.parties.proofs.Bounds.{bounds}
+use Rattle.access.proofs.Accepted.{frame-whole, readable}
 use Rattle.access.proofs.readings.channel_bytes.Statement.{statement}
 use Rattle.access.proofs.readings.channel_bytes.Tie as tie
 use Rattle.access.specs.Reading.{partBytes, partPlace}
@@ -21,7 +22,7 @@ channel-bytes-spec =
     (λ c. search needs)
     (λ c.
     let ok = readable _ _ _ _ (sym (c .before .refuse-reading .ensures) ∙ c .if1 .taken) in
-    let b = bounds _ (ok .channel-known) in
+    let b = bounds (c .before .before .before .args .channel) (ok .channel-known) in
     let w = frame-whole _ (ok .framed) in
     omega arith)
     (λ c. search needs)

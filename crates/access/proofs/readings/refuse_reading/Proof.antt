@@ -16,7 +16,7 @@ refuse-reading-spec =
     (λ c. simp (← c .before .before .before .is-valid .ensures, c .before .before .if1 .left, ← c .before .is-known .ensures, c .if2 .taken))
     (λ c κs. search needs)
     (λ c. simp (← c .before .before .before .before .before .is-valid .ensures, c .before .before .before .before .if1 .left, ← c .before .before .before .is-known .ensures, c .before .before .if2 .left, ← c .before .is-channel .ensures, c .if3 .taken))
-    (λ c κs. sym (c .before .before .is-channel .ensures) ∙ not-false _ (c .before .if3 .left))
+    (λ c κs. search needs)
     (λ c. simp (← c .before .before .before .before .before .before .before .before .is-valid .ensures, c .before .before .before .before .before .before .before .if1 .left, ← c .before .before .before .before .before .before .is-known .ensures, c .before .before .before .before .before .if2 .left, ← c .before .before .before .before .is-channel .ensures, c .before .before .before .if3 .left, ← c .before .is-owner .ensures, c .if4 .taken))
     (λ c κs. search needs)
     (λ c. simp (← c .before .before .before .before .before .before .before .before .before .before .is-valid .ensures, c .before .before .before .before .before .before .before .before .before .if1 .left, ← c .before .before .before .before .before .before .before .before .is-known .ensures, c .before .before .before .before .before .before .before .if2 .left, ← c .before .before .before .before .before .before .is-channel .ensures, c .before .before .before .before .before .if3 .left, ← c .before .before .before .is-owner .ensures, c .before .before .if4 .left, ← c .before .is-frame .ensures, c .if5 .taken))

@@ -1,0 +1,3 @@
+pub mod Bounds
+pub mod Owners
+pub mod Figures

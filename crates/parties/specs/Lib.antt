@@ -1,0 +1,4 @@
+pub mod Parties
+pub mod Channels
+pub mod Owners
+pub mod Figures
