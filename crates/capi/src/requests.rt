@@ -73,7 +73,7 @@ pub extern "C" fn rimevelvet_plan(
             channel,
             value,
         };
-        let planned = planner::plan_borrowed(before, party, request, tx, at);
+        let planned = live::plan_borrowed(before, party, request, tx, at);
         let next = planned.next;
         FlatPlanned {
             refusal: planned.refusal,

@@ -8,7 +8,6 @@ use Rattle.protocol.specs.declared.Output.the-variants.{Empty}
 use Rattle.ads1299.specs.declared.Converter.{Converter}
 use Rattle.ads1299.specs.State.{withRegisters, withOutput}
 use Rattle.settings.specs.Registers.{fieldOf, withField}
-use Rattle.planner.specs.declared.Answer.{Answer}
 use Rattle.planner.specs.declared.Planned.{Planned}
 use Rattle.planner.specs.Submission.{Submission}
 use Rattle.planner.specs.Plan.{planOf, planLength}
@@ -37,7 +36,3 @@ planned s x =
     cond (accepted (refusalOf s x))
     (record { refusal = none; length = planLength s; next = changed s x })
     (record { refusal = refusalOf s x; length = 0; next = s })
-
--- gives what an answer says beside the state
-abbrev pub answerOf : Planned → Answer
-answerOf p = record { refusal = p .refusal; length = p .length }

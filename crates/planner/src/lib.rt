@@ -11,7 +11,7 @@ ghost use Rattle.settings.specs.Registers.{withField};
 ghost use Rattle.planner.specs.Submission.{roomAt, submission};
 ghost use Rattle.planner.specs.Refusals.{fieldOwner};
 ghost use Rattle.planner.specs.Plan.{planLength};
-ghost use Rattle.planner.specs.Planned.{refusalOf, planned, answerOf};
+ghost use Rattle.planner.specs.Planned.{refusalOf, planned};
 ghost use Rattle.planner.specs.Buffer.{txAfter};
 ghost use Rattle.planner.specs.Writer.{planBytes, overlaid};
 use ads1299::Converter;
@@ -24,12 +24,6 @@ pub struct Planned {
     pub refusal: u8,
     pub length: usize,
     pub next: Converter,
-}
-
-// What the planner answers beside the state.
-pub struct Answer {
-    pub refusal: u8,
-    pub length: usize,
 }
 
 // The owner of a channel field is the channel's, that of a shared field the administrator.
@@ -181,45 +175,5 @@ pub fn plan(c: Converter, party: u32, request: Request, tx: &mut [u8], at: usize
             length: 0,
             next: c,
         }
-    }
-}
-
-// The bench's live state is lent and changed where it lies: one call of the planner and one store.
-pub fn plan_live(
-    live: &mut Converter,
-    party: u32,
-    request: Request,
-    tx: &mut [u8],
-    at: usize,
-) -> Answer
-    ensures { λ r. ⌜ (r ≡ answerOf (planned (now (live .entry)) (submission party request (now (tx .entry)) at)))
-        × ((now (live .exit) ≡ planned (now (live .entry)) (submission party request (now (tx .entry)) at) .next)
-        × (now (tx .exit) ≡ txAfter (now (live .entry)) (submission party request (now (tx .entry)) at) (now (tx .entry)) at)) ⌝ }
-{
-    let planned = plan(*live, party, request, tx, at);
-    *live = planned.next;
-    Answer {
-        refusal: planned.refusal,
-        length: planned.length,
-    }
-}
-
-// The same as plan, by way of a local state that is lent: its parameters are plain, so that its callers need no walk.
-pub fn plan_borrowed(
-    c: Converter,
-    party: u32,
-    request: Request,
-    tx: &mut [u8],
-    at: usize,
-) -> Planned
-    ensures { λ r. ⌜ (r ≡ planned c (submission party request (now (tx .entry)) at))
-        × (now (tx .exit) ≡ txAfter c (submission party request (now (tx .entry)) at) (now (tx .entry)) at) ⌝ }
-{
-    let mut live = c;
-    let answer = plan_live(&mut live, party, request, tx, at);
-    Planned {
-        refusal: answer.refusal,
-        length: answer.length,
-        next: live,
     }
 }

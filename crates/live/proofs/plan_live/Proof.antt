@@ -45,26 +45,27 @@ use denote.Exit.{yes}
 use Rattle.request.specs.declared.Request.{Request}
 use Rattle.ads1299.specs.declared.Converter.{Converter}
 use Rattle.ads1299.specs.Formed.{Formed}
 use Rattle.planner.specs.declared.Planned.{Planned}
 use Rattle.planner.specs.Submission.{submission}
-use Rattle.planner.specs.Planned.{planned, answerOf}
+use Rattle.planner.specs.Planned.{planned}
+use Rattle.live.specs.Answers.{answerOf}
 use Rattle.planner.specs.Buffer.{txAfter}
 use Rattle.ads1299.proofs.Converter as S
 use Rattle.ads1299.proofs.Converter.Laws as S′
 use Rattle.planner.proofs.Planned as P
 use Rattle.planner.proofs.Planned.Laws as P′
-use Rattle.planner.proofs.Answer as N
-use Rattle.planner.proofs.Answer.Laws as N′
+use Rattle.live.proofs.Answer as N
+use Rattle.live.proofs.Answer.Laws as N′
 use Rattle.request.proofs.Request as Q
 use Rattle.request.proofs.Request.Laws as Q′
 use Rattle.planner.proofs.plan as plan
 use Rattle.planner.proofs.plan.Symbol as plan-def
 use Rattle.planner.proofs.plan.Symbol.{name as #planner·plan}
 use Rattle.planner.proofs.plan.Met as plan-thm
-use Rattle.planner.proofs.plan_live.Key.{name as #planner·plan-live}
-use Rattle.planner.proofs.plan_live as f
-use Rattle.planner.proofs.plan_live.Statement as stated
-use Rattle.planner.proofs.plan_live.Code as code
+use Rattle.live.proofs.plan_live.Key.{name as #live·plan-live}
+use Rattle.live.proofs.plan_live as f
+use Rattle.live.proofs.plan_live.Statement as stated
+use Rattle.live.proofs.plan_live.Code as code
 
 abbrev stayed : Stays (f.ended .signature .params) (f.ended .kept)
 stayed = (stay-ref (0 ∷ []) tt (plain (λ _. S.the-row)), (stay-none (λ _. u32) yes, (stay-none (λ _. Q.the-row) yes, (gave-slice (1 ∷ []) tt (plain (λ _. u8)), (stay-none (λ _. usize) yes, tt)))))
@@ -188,6 +189,6 @@ pub plan-live-spec : {M : Type 1} → stated.statement M
 unfolding code.routine tablesOf
 plan-live-spec 𝓤 H 𝓜 𝓖 𝓡 =
     entered 𝓤 H (tripleOf 𝓤 H (𝓖 .A) f.signature (f.spec 𝓤 H (𝓖 .A) (𝓜 .mem) (𝓡 .run)))
-    (tables 𝓤 H 𝓜 𝓡 code.env .C) (tables 𝓤 H 𝓜 𝓡 code.env .Λ) #planner·plan-live code.function (code.unfolded 𝓤 H 𝓜 𝓡)
+    (tables 𝓤 H 𝓜 𝓡 code.env .C) (tables 𝓤 H 𝓜 𝓡 code.env .Λ) #live·plan-live code.function (code.unfolded 𝓤 H 𝓜 𝓡)
     (meets 𝓤 H (𝓖 .A) (givenOf 𝓤 H 𝓜 𝓖) (𝓜 .mem) (𝓡 .run) (tablesOf 𝓤 H 𝓜 (tables 𝓤 H 𝓜 𝓡 code.env))
     (cited 𝓤 H (Plan 𝓤 H (𝓖 .A) (𝓜 .mem) (𝓡 .run)) 𝓜 𝓡 code.env #planner·plan plan-def.routine code.calls-planner·plan (plan-thm.met 𝓤 H 𝓜 𝓖 𝓡)))

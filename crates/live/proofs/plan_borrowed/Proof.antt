@@ -46,27 +46,28 @@ use denote.Triple.Walked.{says, Stays, stay-none, gave-slice, walkOf, AllGo, goe
 use denote.Exit.{yes}
 use Rattle.request.specs.declared.Request.{Request}
 use Rattle.ads1299.specs.declared.Converter.{Converter}
 use Rattle.planner.specs.declared.Planned.{Planned}
-use Rattle.planner.specs.declared.Answer.{Answer}
+use Rattle.live.specs.declared.Answer.{Answer}
 use Rattle.planner.specs.Submission.{submission}
-use Rattle.planner.specs.Planned.{planned, answerOf}
+use Rattle.planner.specs.Planned.{planned}
+use Rattle.live.specs.Answers.{answerOf}
 use Rattle.planner.specs.Buffer.{txAfter}
 use Rattle.ads1299.proofs.Converter as S
 use Rattle.ads1299.proofs.Converter.Laws as S′
 use Rattle.request.proofs.Request as Q
 use Rattle.request.proofs.Request.Laws as Q′
 use Rattle.planner.proofs.Planned as P
 use Rattle.planner.proofs.Planned.Laws as P′
-use Rattle.planner.proofs.Answer as N
-use Rattle.planner.proofs.Answer.Laws as N′
-use Rattle.planner.proofs.plan_live as live
-use Rattle.planner.proofs.plan_live.Symbol as live-def
-use Rattle.planner.proofs.plan_live.Symbol.{name as #planner·plan-live}
-use Rattle.planner.proofs.plan_live.Met as live-thm
-use Rattle.planner.proofs.plan_borrowed.Key.{name as #planner·plan-borrowed}
-use Rattle.planner.proofs.plan_borrowed as f
-use Rattle.planner.proofs.plan_borrowed.Statement as stated
-use Rattle.planner.proofs.plan_borrowed.Code as code
+use Rattle.live.proofs.Answer as N
+use Rattle.live.proofs.Answer.Laws as N′
+use Rattle.live.proofs.plan_live as live
+use Rattle.live.proofs.plan_live.Symbol as live-def
+use Rattle.live.proofs.plan_live.Symbol.{name as #live·plan-live}
+use Rattle.live.proofs.plan_live.Met as live-thm
+use Rattle.live.proofs.plan_borrowed.Key.{name as #live·plan-borrowed}
+use Rattle.live.proofs.plan_borrowed as f
+use Rattle.live.proofs.plan_borrowed.Statement as stated
+use Rattle.live.proofs.plan_borrowed.Code as code
 
 abbrev stayed : Stays (f.ended .signature .params) (f.ended .kept)
 stayed = (stay-none (λ _. S.the-row) yes, (stay-none (λ _. u32) yes, (stay-none (λ _. Q.the-row) yes, (gave-slice (0 ∷ []) tt (plain (λ _. u8)), (stay-none (λ _. usize) yes, tt)))))
@@ -159,7 +160,7 @@ module _ {M : Type 1} (𝓤 : URA M) (H : Heap 𝓤) (A : Atoms 𝓤) (W : Given
       owned ! Q.the-row (Is Q.the-row) (LL.makes Q.the-type Q′.the-plain 𝓤 H A) k _ ik $ fjoin ! $ owned ! u32 (Is u32) (uint-makes 𝓤 H A W w32) p _ (refl, fp) $ fjoin ! $
       owned ! S.the-row (Is S.the-row) (LL.makes S.the-type S′.the-plain 𝓤 H A) h _ is $ fjoin ! $ done !
 
-  module _ (C : Calls 𝓤 H) (Λ : Loops 𝓤 H) (fm : FmC 𝓤 H (W .laws) C) (known : Triple 𝓤 (C #planner·plan-live) (Live 𝓤 H A at-mem run)) where
+  module _ (C : Calls 𝓤 H) (Λ : Loops 𝓤 H) (fm : FmC 𝓤 H (W .laws) C) (known : Triple 𝓤 (C #live·plan-live) (Live 𝓤 H A at-mem run)) where
     walk : Room u8 (length ys) → ent 𝓤 (onEntry 𝓤 H A f.signature (κ, tt) (q, tt) a (vals (mach h))) (WpFn 𝓤 H C Λ code.function (mach h ∷ vint w32 p ∷ machQ k ∷ s ∷ vint w64 t ∷ []) Post)
     walk room =
         qed W ((‵ (flft κ q) ⊛ ‵ ftrue) ∷ ‵ (owns (S.the-row ∷ u32 ∷ Q.the-row ∷ MutSlice (named 0) κ u8 ∷ usize ∷ []) a (vals (mach h))) ∷ []) ∵
@@ -200,7 +201,7 @@ module _ {M : Type 1} (𝓤 : URA M) (H : Heap 𝓤) (A : Atoms 𝓤) (W : Given
         keep ! (2 ∷ 3 ∷ []) $ by ! (exits r w (zs .0) (zs .1 .1 .1 .0) ir ig e l))))))))))))))))))))))
 
 module _ {M : Type 1} (𝓤 : URA M) (H : Heap 𝓤) (A : Atoms 𝓤) (W : Given 𝓤 H A) (at-mem : Memory → SProp 𝓤) (run : Routine → Fun 𝓤) where
-  plan-borrowed-walks : (C : Calls 𝓤 H) (Λ : Loops 𝓤 H) → FmC 𝓤 H (W .laws) C → Triple 𝓤 (C #planner·plan-live) (Live 𝓤 H A at-mem run) → Walks 𝓤 H A f.ended stayed (WpFn 𝓤 H C Λ code.function) (f.clauses 𝓤 H A at-mem run)
+  plan-borrowed-walks : (C : Calls 𝓤 H) (Λ : Loops 𝓤 H) → FmC 𝓤 H (W .laws) C → Triple 𝓤 (C #live·plan-live) (Live 𝓤 H A at-mem run) → Walks 𝓤 H A f.ended stayed (WpFn 𝓤 H C Λ code.function) (f.clauses 𝓤 H A at-mem run)
   plan-borrowed-walks C Λ fm known = walked 𝓤 H A f.ended stayed (f.clauses 𝓤 H A at-mem run) (WpFn 𝓤 H C Λ code.function)
       (λ κs. (LL.vals S.the-type S′.the-laws, (uint-vals w32, (LL.vals Q.the-type Q′.the-laws, (slice-vals, (uint-vals w64, tt))))))
       (λ κs. (LL.tells S.the-type S′.the-laws, (uint-tells w32, (LL.tells Q.the-type Q′.the-laws, (mut-slice-tells (named 0) (κs .0) u8, (uint-tells w64, tt))))))
@@ -220,7 +221,7 @@ module _ {M : Type 1} (𝓤 : URA M) (H : Heap 𝓤) (A : Atoms 𝓤) (W : Given
     ),
   )
 
-plan-borrowed-meets : {M : Type 1} (𝓤 : URA M) (H : Heap 𝓤) (A : Atoms 𝓤) (W : Given 𝓤 H A) (mem : Memory → SProp 𝓤) (run : Routine → Fun 𝓤) (𝓣 : Tables 𝓤 H) → Triple 𝓤 (𝓣 .C #planner·plan-live) (Live 𝓤 H A mem run)
+plan-borrowed-meets : {M : Type 1} (𝓤 : URA M) (H : Heap 𝓤) (A : Atoms 𝓤) (W : Given 𝓤 H A) (mem : Memory → SProp 𝓤) (run : Routine → Fun 𝓤) (𝓣 : Tables 𝓤 H) → Triple 𝓤 (𝓣 .C #live·plan-live) (Live 𝓤 H A mem run)
     → Meets 𝓤 H A f.signature (WpFn 𝓤 H (𝓣 .C) (𝓣 .Λ) code.function) (f.spec 𝓤 H A mem run)
 plan-borrowed-meets 𝓤 H A W mem run 𝓣 known = walk-meets 𝓤 H A f.ended stayed W (goes-all 𝓤 H A W mem run) (f.clauses 𝓤 H A mem run) (WpFn 𝓤 H (𝓣 .C) (𝓣 .Λ) code.function) (WpFn-mono 𝓤 H (W .laws) 𝓣 code.function)
     (plan-borrowed-walks 𝓤 H A W mem run (𝓣 .C) (𝓣 .Λ) (fmOf 𝓤 H (W .laws) 𝓣) known)
@@ -229,6 +230,6 @@ pub plan-borrowed-spec : {M : Type 1} → stated.statement M
 unfolding code.routine tablesOf
 plan-borrowed-spec 𝓤 H 𝓜 𝓖 𝓡 =
     entered 𝓤 H (tripleOf 𝓤 H (𝓖 .A) f.signature (f.spec 𝓤 H (𝓖 .A) (𝓜 .mem) (𝓡 .run)))
-    (tables 𝓤 H 𝓜 𝓡 code.env .C) (tables 𝓤 H 𝓜 𝓡 code.env .Λ) #planner·plan-borrowed code.function (code.unfolded 𝓤 H 𝓜 𝓡)
+    (tables 𝓤 H 𝓜 𝓡 code.env .C) (tables 𝓤 H 𝓜 𝓡 code.env .Λ) #live·plan-borrowed code.function (code.unfolded 𝓤 H 𝓜 𝓡)
     (plan-borrowed-meets 𝓤 H (𝓖 .A) (givenOf 𝓤 H 𝓜 𝓖) (𝓜 .mem) (𝓡 .run) (tablesOf 𝓤 H 𝓜 (tables 𝓤 H 𝓜 𝓡 code.env))
-    (cited 𝓤 H (Live 𝓤 H (𝓖 .A) (𝓜 .mem) (𝓡 .run)) 𝓜 𝓡 code.env #planner·plan-live live-def.routine code.calls-planner·plan-live (live-thm.met 𝓤 H 𝓜 𝓖 𝓡)))
+    (cited 𝓤 H (Live 𝓤 H (𝓖 .A) (𝓜 .mem) (𝓡 .run)) 𝓜 𝓡 code.env #live·plan-live live-def.routine code.calls-live·plan-live (live-thm.met 𝓤 H 𝓜 𝓖 𝓡)))
