@@ -7,10 +7,10 @@ use Rattle.ads1299.specs.PowerUp.{validId, restored, poweredUp}
 use Rattle.ads1299.specs.Validity.{validConverter, valid}
 use Rattle.parties.specs.Parties.{knownParty}
 use Rattle.parties.specs.Owners.{ownerOf}
-use Rattle.settings.specs.Table.{table, rowOf}
-use Rattle.settings.specs.Names.{named}
-use Rattle.settings.specs.Places.{place}
-use Rattle.settings.specs.Values.{fits, legal, settable}
+use Rattle.fields.specs.Table.{table, rowOf}
+use Rattle.fields.specs.Names.{named}
+use Rattle.fields.specs.Places.{place}
+use Rattle.fields.specs.Values.{fits, legal, settable}
 use Rattle.settings.specs.Registers.{writeAt, withField, fieldByte}
 use Rattle.planner.specs.Plan.{planOf}
 use Rattle.planner.specs.Refusals.{judged}

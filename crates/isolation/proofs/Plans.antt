@@ -12,12 +12,12 @@ use Rattle.bits.specs.Fields.{field}
 use Rattle.bits.proofs.Fields.{same-bits}
 use Rattle.refusal.specs.First.{accepted}
 use Rattle.ads1299.specs.declared.Converter.{Converter}
-use Rattle.settings.specs.Table.{table, rowOf}
-use Rattle.settings.specs.Names.{channelField, named, everyName}
-use Rattle.settings.specs.Places.{place, bitAt}
+use Rattle.fields.specs.Table.{table, rowOf}
+use Rattle.fields.specs.Names.{channelField, named, everyName}
+use Rattle.fields.specs.Places.{place, bitAt}
 use Rattle.settings.specs.Registers.{readAt, fieldByte}
-use Rattle.settings.proofs.Names.{every-at}
-use Rattle.settings.proofs.Apart.{place-inside, has}
+use Rattle.fields.proofs.Names.{every-at}
+use Rattle.fields.proofs.Apart.{place-inside, has}
 use Rattle.settings.proofs.Registers.{written}
 use Rattle.planner.specs.Submission.{Submission}
 use Rattle.planner.specs.Refusals.{Values, fieldOwner, judged}

@@ -14,10 +14,10 @@ use Rattle.ads1299.specs.Step.{effect, commanded, counted, outgoing, followed, 
 use Rattle.ads1299.specs.Run.{after, outs}
 use Rattle.parties.specs.Parties.{knownParty}
 use Rattle.parties.specs.Owners.{ownerOf}
-use Rattle.settings.specs.Table.{table, rowOf}
-use Rattle.settings.specs.Names.{named}
-use Rattle.settings.specs.Places.{place}
-use Rattle.settings.specs.Values.{fits, legal, settable}
+use Rattle.fields.specs.Table.{table, rowOf}
+use Rattle.fields.specs.Names.{named}
+use Rattle.fields.specs.Places.{place}
+use Rattle.fields.specs.Values.{fits, legal, settable}
 use Rattle.settings.specs.Registers.{fieldByte}
 use Rattle.planner.specs.Refusals.{judged}
 use Rattle.planner.specs.Plan.{planOf}

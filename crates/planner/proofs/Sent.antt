@@ -36,15 +36,16 @@ use Rattle.ads1299.specs.Step.{effect, commanded, counted, followed, stepped}
 use Rattle.ads1299.specs.Run.{after, runRefusals}
 use Rattle.ads1299.proofs.ValidState.{parts, whole}
 use Rattle.ads1299.proofs.StaysValid.{next-is, stays-valid}
-use Rattle.settings.specs.Table.{table, rowOf}
-use Rattle.settings.specs.Names.{named, everyName}
-use Rattle.settings.specs.Places.{place}
-use Rattle.settings.specs.Values.{settable}
+use Rattle.fields.specs.Table.{table, rowOf}
+use Rattle.fields.specs.Names.{named, everyName}
+use Rattle.fields.specs.Places.{place}
+use Rattle.fields.specs.Values.{settable}
 use Rattle.settings.specs.Registers.{withField, fieldByte}
-use Rattle.settings.specs.Masks.{insideMasks}
+use Rattle.fields.specs.Masks.{insideMasks}
 use Rattle.settings.specs.Claims.{Bytes}
-use Rattle.settings.proofs.Apart.{place-inside}
-use Rattle.settings.proofs.Masks.{inside-masks, passes-masks}
+use Rattle.fields.proofs.Apart.{place-inside}
+use Rattle.fields.proofs.Masks.{inside-masks}
+use Rattle.settings.proofs.Masks.{passes-masks}
 use Rattle.settings.proofs.Registers.{written}
 use Rattle.planner.specs.Submission.{Submission}
 use Rattle.planner.specs.Plan.{entering, leaving, writing, planAround, planOf}

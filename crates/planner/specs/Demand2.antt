@@ -11,11 +11,11 @@ use Rattle.ads1299.specs.declared.Converter.{Converter}
 use Rattle.ads1299.specs.State.{withRegisters, withOutput}
 use Rattle.ads1299.specs.Formed.{Formed}
 use Rattle.ads1299.specs.Run.{after, runRefusals}
-use Rattle.settings.specs.declared.Place.{Place}
-use Rattle.settings.specs.Names.{named}
-use Rattle.settings.specs.Places.{place, apart}
+use Rattle.fields.specs.declared.Place.{Place}
+use Rattle.fields.specs.Names.{named}
+use Rattle.fields.specs.Places.{place, apart}
 use Rattle.settings.specs.Registers.{readAt, fieldOf}
-use Rattle.settings.specs.Claims.{same}
+use Rattle.fields.specs.Layout.{same}
 use Rattle.planner.specs.Submission.{Submission}
 use Rattle.planner.specs.Refusals.{refusals}
 use Rattle.planner.specs.Planned.{plan, planned}

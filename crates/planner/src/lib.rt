@@ -30,7 +30,7 @@ pub struct Planned {
 fn is_field_owner(owners: [u8; registers::CHANNELS], party: u32, field: u32, channel: u32) -> bool
     ensures { λ r. ⌜ r ≡ eqb party (fieldOwner owners field channel) ⌝ }
 {
-    if settings::is_channel_field(field) {
+    if fields::is_channel_field(field) {
         parties::is_owner(owners, party, channel)
     } else {
         parties::is_admin(party)
@@ -75,17 +75,17 @@ fn refuse(c: Converter, party: u32, request: Request, room: usize) -> u8
     if !parties::is_known(party) {
         return refusal::UNKNOWN_PARTY;
     }
-    if !settings::is_field(request.field) {
+    if !fields::is_field(request.field) {
         return refusal::UNKNOWN_FIELD;
     }
-    if !settings::takes_channel(request.field, request.channel) {
+    if !fields::takes_channel(request.field, request.channel) {
         return refusal::WRONG_CHANNEL;
     }
     let owners = c.owners;
     if !is_field_owner(owners, party, request.field, request.channel) {
         return refusal::NOT_OWNER;
     }
-    if !settings::is_legal(request.field, request.value) {
+    if !fields::is_legal(request.field, request.value) {
         return refusal::BAD_VALUE;
     }
     let phase = c.phase;
@@ -160,7 +160,7 @@ pub fn plan(c: Converter, party: u32, request: Request, tx: &mut [u8], at: usize
     let number = refuse(c, party, request, count_room(tx, at));
     if number == refusal::NONE {
         let registers = c.registers;
-        let place = settings::locate(request.field, request.channel);
+        let place = fields::locate(request.field, request.channel);
         let byte = settings::new_byte(registers, request.field, request.channel, request.value);
         let length = write_plan(&mut tx[at..], c.standby, c.continuous, place.register, byte);
         let next = change(c, request);

@@ -1,15 +1,13 @@
--- One claim about all the figures, by computation. Assumes nothing.
-use mathlib.Core.Path.{_≡_, refl}
-use mathlib.Core.Bool.{true}
+-- The figures hold, by computation. Assumes nothing.
+use mathlib.Core.Path.{refl}
 use Rattle.bits.specs.Fields.{field, inserted}
-use Rattle.settings.specs.Table.{table, rowOf}
-use Rattle.settings.specs.Names.{named, everyName, sumBelow, nameCount}
-use Rattle.settings.specs.Places.{place, apart}
-use Rattle.settings.specs.Values.{fits, legal, settable}
-use Rattle.settings.specs.Registers.{fieldByte}
-use Rattle.settings.specs.Masks.{insideMasks, fillsMasks}
-use Rattle.settings.specs.Figures.{right, allRight, placeFigures, valueFigures, registerFigures, figures}
+use Rattle.fields.specs.Table.{table, rowOf}
+use Rattle.fields.specs.Names.{named}
+use Rattle.fields.specs.Places.{place}
+use Rattle.fields.specs.Values.{fits, settable}
+use Rattle.settings.specs.Registers.{readAt, fieldOf, fieldByte}
+use Rattle.settings.specs.Figures.{FiguresHold}
 
-pub all-right : allRight figures ≡ true
-unfolding allRight figures placeFigures valueFigures registerFigures right place apart named everyName rowOf table legal fits settable fieldByte inserted field sumBelow nameCount insideMasks fillsMasks
-all-right = refl
+pub figures-hold : FiguresHold
+unfolding field inserted table rowOf named place fits settable readAt fieldOf fieldByte
+figures-hold = refl

@@ -1,31 +1,17 @@
--- The fields lie inside the masks, and fill them, wherever the tests say so. Assumes nothing.
+-- The byte that sets a field passes the masks whole. Assumes nothing.
 use mathlib.Core.Path.{_≡_}
-use mathlib.Core.Bool.{Bool, true, not, _||_}
+use mathlib.Core.Bool.{true}
 use mathlib.Core.List.{List}
-use Prim.Native.Nat.{ℕ, _-_, _^_}
-use lib.Dec.{eqb}
+use Prim.Native.Nat.{ℕ}
 use lib.ListN.{getD}
-use borrow.Author.Tests.{eqb-true, eq-eqb, ne-eqb, not-true}
-use Rattle.bits.specs.Fields.{field}
 use Rattle.bits.proofs.Masks.{passes-mask}
-use Rattle.cases.specs.Below.{below}
-use Rattle.cases.proofs.Below.{below-at}
-use Rattle.registers.specs.Addresses.{registerCount, GPIO}
-use Rattle.settings.specs.Names.{everyName}
-use Rattle.settings.specs.Places.{place, apart, bitAt}
-use Rattle.settings.specs.Masks.{InsideMasks, FillsMasks, PassesMasks, insideMasks, fillsMasks}
-use Rattle.settings.specs.Values.{settable}
+use Rattle.fields.specs.Places.{place}
+use Rattle.fields.specs.Values.{settable}
+use Rattle.fields.specs.Masks.{InsideMasks}
+use Rattle.fields.proofs.Apart.{place-inside}
 use Rattle.settings.specs.Registers.{fieldByte}
-use Rattle.settings.specs.Claims.{Bytes}
-use Rattle.settings.proofs.Names.{every-at, every-find}
-use Rattle.settings.proofs.Apart.{place-inside}
+use Rattle.settings.specs.Claims.{Bytes, PassesMasks}
 use Rattle.settings.proofs.Registers.{settable-facts}
-
-pub inside-masks : (masks : List ℕ) → insideMasks masks ≡ true → InsideMasks masks
-unfolding insideMasks
-inside-masks masks h f n k =
-    eqb-true _ _
-    (every-at (λ f n. eqb (field (getD masks (place f n .register) 0) (place f n .bit) (place f n .width)) (2 ^ place f n .width - 1)) h f n k)
 
 pub passes-masks : (masks l : List ℕ) (f n v : ℕ) → Bytes masks → Bytes l → InsideMasks masks → settable f n v ≡ true → PassesMasks masks l f n v
 unfolding fieldByte
@@ -35,13 +21,3 @@ passes-masks masks l f n v hm hl covers h =
     rw h
     (passes-mask (getD l (k .register) 0) (k .bit) (k .width) v (getD masks (k .register) 0) (hl (k .register)) (hm (k .register)) (s .fit) (place-inside f n (s .name) .in-byte)
     (covers f n (s .name)))
-
-pub fills-masks : (masks : List ℕ) → fillsMasks masks ≡ true → FillsMasks masks
-unfolding fillsMasks
-fills-masks masks h r i hr hi ne one =
-    let bit : ℕ → Bool = λ j. not (eqb (field (getD masks r 0) j 1) 1) || not (everyName (λ f n. apart (place f n) (bitAt r j))) in
-    let at : (eqb r GPIO || below 8 bit) ≡ true =
-    below-at registerCount (λ r. eqb r GPIO
-    || below 8 (λ i. not (eqb (field (getD masks r 0) i 1) 1) || not (everyName (λ f n. apart (place f n) (bitAt r i))))) h r hr in
-    let e = below-at 8 bit (rw (ne-eqb r GPIO ne) at at) i hi in
-    every-find (λ f n. apart (place f n) (bitAt r i)) (not-true _ (rw (eq-eqb (field (getD masks r 0) i 1) 1 one) at e))

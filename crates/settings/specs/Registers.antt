@@ -4,9 +4,9 @@ use mathlib.Core.List.{List}
 use Prim.Native.Nat.{ℕ}
 use lib.ListN.{getD, set}
 use Rattle.bits.specs.Fields.{field, inserted}
-use Rattle.settings.specs.declared.Place.{Place}
-use Rattle.settings.specs.Places.{place}
-use Rattle.settings.specs.Values.{settable}
+use Rattle.fields.specs.declared.Place.{Place}
+use Rattle.fields.specs.Places.{place}
+use Rattle.fields.specs.Values.{settable}
 
 -- gives the value at a place
 unfoldable pub readAt : List ℕ → Place → ℕ
