@@ -4,14 +4,14 @@ ghost use Rattle.ads1299.specs.PowerUp.{poweredUp};
 ghost use Rattle.ads1299.specs.Step.{stepped};
 ghost use Rattle.ads1299.specs.Deselect.{deselected};
 ghost use Rattle.ads1299.specs.Sample.{sampled};
-ghost use Rattle.capi.specs.States.{stateOf};
+ghost use Rattle.flat.specs.States.{stateOf};
 ghost use Rattle.capi.specs.Answers.{flatPoweredUp, steppedFrom, movedFrom};
-use super::flat;
-use crate::FlatConverter;
+use super::answers;
 use crate::FlatMoved;
 use crate::FlatPoweredUp;
 use crate::FlatStepped;
 use ads1299::Converter;
+use flat::FlatConverter;
 
 #[no_mangle]
 pub extern "C" fn rimevelvet_power_up(id: u8) -> FlatPoweredUp
@@ -51,9 +51,9 @@ pub extern "C" fn rimevelvet_deselect(state: FlatConverter) -> FlatMoved
     ensures { λ r. ⌜ r ≡ movedFrom state (deselected (stateOf state)) ⌝ }
 {
     if flat::is_state(state) {
-        flat::flatten_moved(flat::state_of(state).deselect())
+        answers::flatten_moved(flat::state_of(state).deselect())
     } else {
-        flat::reject(state)
+        answers::reject(state)
     }
 }
 
@@ -62,8 +62,8 @@ pub extern "C" fn rimevelvet_sample(state: FlatConverter, codes: &[i32], p: u8, 
     ensures { λ r. ⌜ r ≡ movedFrom state (sampled (stateOf state) (now (codes .entry)) p n) ⌝ }
 {
     if flat::is_state(state) {
-        flat::flatten_moved(flat::state_of(state).sample(codes, p, n))
+        answers::flatten_moved(flat::state_of(state).sample(codes, p, n))
     } else {
-        flat::reject(state)
+        answers::reject(state)
     }
 }
