@@ -22,7 +22,11 @@ pub extern "C" fn rimevelvet_grant(
 {
     if flat::is_state(state) {
         let before = flat::state_of(state);
-        answers::flatten_moved(access::grant(before, caller, receiver, channel))
+        let granted = access::grant(before, caller, receiver, channel);
+        FlatMoved {
+            refusal: granted.refusal,
+            next: flat::flatten(granted.next),
+        }
     } else {
         answers::reject(state)
     }

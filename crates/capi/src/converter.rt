@@ -18,10 +18,9 @@ pub extern "C" fn rimevelvet_power_up(id: u8) -> FlatPoweredUp
     ensures { λ r. ⌜ r ≡ flatPoweredUp (poweredUp id) ⌝ }
 {
     let powered = Converter::power_up(id);
-    let converter = powered.converter;
     FlatPoweredUp {
         refusal: powered.refusal,
-        converter: flat::flatten(converter),
+        converter: flat::flatten(powered.converter),
     }
 }
 
@@ -30,12 +29,12 @@ pub extern "C" fn rimevelvet_step(state: FlatConverter, byte: u8) -> FlatStepped
     ensures { λ r. ⌜ r ≡ steppedFrom state (stepped (stateOf state) byte) ⌝ }
 {
     if flat::is_state(state) {
-        let stepped = flat::state_of(state).step(byte);
-        let next = stepped.next;
+        let before = flat::state_of(state);
+        let stepped = before.step(byte);
         FlatStepped {
             refusal: stepped.refusal,
             out: stepped.out,
-            next: flat::flatten(next),
+            next: flat::flatten(stepped.next),
         }
     } else {
         FlatStepped {
@@ -51,7 +50,12 @@ pub extern "C" fn rimevelvet_deselect(state: FlatConverter) -> FlatMoved
     ensures { λ r. ⌜ r ≡ movedFrom state (deselected (stateOf state)) ⌝ }
 {
     if flat::is_state(state) {
-        answers::flatten_moved(flat::state_of(state).deselect())
+        let before = flat::state_of(state);
+        let deselected = before.deselect();
+        FlatMoved {
+            refusal: deselected.refusal,
+            next: flat::flatten(deselected.next),
+        }
     } else {
         answers::reject(state)
     }
@@ -62,7 +66,12 @@ pub extern "C" fn rimevelvet_sample(state: FlatConverter, codes: &[i32], p: u8, 
     ensures { λ r. ⌜ r ≡ movedFrom state (sampled (stateOf state) (now (codes .entry)) p n) ⌝ }
 {
     if flat::is_state(state) {
-        answers::flatten_moved(flat::state_of(state).sample(codes, p, n))
+        let before = flat::state_of(state);
+        let sampled = before.sample(codes, p, n);
+        FlatMoved {
+            refusal: sampled.refusal,
+            next: flat::flatten(sampled.next),
+        }
     } else {
         answers::reject(state)
     }

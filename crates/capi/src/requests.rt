@@ -73,11 +73,10 @@ pub extern "C" fn rimevelvet_plan(
             value,
         };
         let planned = planner::plan_borrowed(before, party, request, tx, at);
-        let next = planned.next;
         FlatPlanned {
             refusal: planned.refusal,
             length: planned.length,
-            next: flat::flatten(next),
+            next: flat::flatten(planned.next),
         }
     } else {
         FlatPlanned {
