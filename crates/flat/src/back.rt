@@ -1,6 +1,6 @@
 // Which flat forms stand for a state, and for which.
 ghost use mathlib.Core.Path.{_≡_};
-ghost use Rattle.flat.specs.States.{isFlag, areFlags, isOutput, isPhase, isState, directionOf, outputOf, phaseOf, stateOf};
+ghost use Rattle.flat.specs.States.{areFlags, isOutput, isPhase, isState, directionOf, outputOf, phaseOf, stateOf};
 use super::codes::AT_PLACE;
 use super::codes::COUNTING;
 use super::codes::EMPTY;
@@ -15,18 +15,12 @@ use protocol::Output;
 use protocol::Phase;
 use protocol::Transfer;
 
-fn is_flag(code: u8) -> bool
-    ensures { λ r. ⌜ r ≡ isFlag code ⌝ }
-{
-    code <= ON
-}
-
 fn are_flags(continuous: u8, standby: u8, converting: u8) -> bool
     ensures { λ r. ⌜ r ≡ areFlags continuous standby converting ⌝ }
 {
-    if is_flag(continuous) {
-        if is_flag(standby) {
-            return is_flag(converting);
+    if continuous <= ON {
+        if standby <= ON {
+            return converting <= ON;
         }
     }
     false
