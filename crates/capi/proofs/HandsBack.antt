@@ -15,12 +15,12 @@ use Rattle.ads1299.specs.Sample.{sampleRefusal, sampled}
 use Rattle.access.specs.Grant.{grantRefusal, granted}
 use Rattle.planner.specs.Submission.{Submission}
 use Rattle.planner.specs.Planned.{refusalOf, planned}
-use Rattle.capi.specs.declared.FlatConverter.{FlatConverter}
-use Rattle.capi.specs.Flat.{flat}
-use Rattle.capi.specs.States.{isState, stateOf}
+use Rattle.flat.specs.declared.FlatConverter.{FlatConverter}
+use Rattle.flat.specs.Flat.{flat}
+use Rattle.flat.specs.States.{isState, stateOf}
 use Rattle.capi.specs.Answers.{steppedFrom, movedFrom, plannedFrom}
 use Rattle.capi.specs.Claims.{HandsBack}
-use Rattle.capi.proofs.RoundTrip.{round-trip}
+use Rattle.flat.proofs.RoundTrip.{round-trip}
 
 -- each entry point below hands back the state that it refused
 step-kept : (s : Converter) (byte : ℕ) → accepted (stepped s byte .refusal) ≡ false → stepped s byte .next ≡ s

@@ -15,7 +15,7 @@ use Rattle.ads1299.specs.declared.Moved.{Moved}
 use Rattle.access.specs.declared.Reading.{Reading}
 use Rattle.access.specs.Reading.{channelReading, partBytes, partPlace}
 use Rattle.planner.specs.declared.Planned.{Planned}
-use Rattle.capi.specs.declared.FlatConverter.{FlatConverter}
+use Rattle.flat.specs.declared.FlatConverter.{FlatConverter}
 use Rattle.capi.specs.declared.FlatPoweredUp.{FlatPoweredUp}
 use Rattle.capi.specs.declared.FlatStepped.{FlatStepped}
 use Rattle.capi.specs.declared.FlatMoved.{FlatMoved}
@@ -24,8 +24,8 @@ use Rattle.capi.specs.declared.FlatPart.{FlatPart}
 use Rattle.capi.specs.declared.FlatParsed.{FlatParsed}
 use Rattle.capi.specs.declared.FlatWritten.{FlatWritten}
 use Rattle.capi.specs.declared.FlatPlanned.{FlatPlanned}
-use Rattle.capi.specs.Flat.{flagCode, flat}
-use Rattle.capi.specs.States.{isState}
+use Rattle.flat.specs.Flat.{flagCode, flat}
+use Rattle.flat.specs.States.{isState}
 
 -- gives the answer of power-up
 abbrev pub flatPoweredUp : PoweredUp → FlatPoweredUp

@@ -1,27 +1,19 @@
--- What is claimed of the flat form beyond the contracts.
+-- What is claimed of the answers beyond the contracts.
 use Prim.Native.Nat.{ℕ}
 use mathlib.Core.Path.{_≡_}
-use mathlib.Core.Bool.{true, false}
+use mathlib.Core.Bool.{false}
 use mathlib.Core.List.{List}
 use lib.IntN.{ℤ}
 use Rattle.refusal.specs.First.{accepted}
-use Rattle.ads1299.specs.declared.Converter.{Converter}
 use Rattle.ads1299.specs.Step.{stepped}
 use Rattle.ads1299.specs.Deselect.{deselected}
 use Rattle.ads1299.specs.Sample.{sampled}
 use Rattle.access.specs.Grant.{granted}
 use Rattle.planner.specs.Submission.{Submission}
 use Rattle.planner.specs.Planned.{planned}
-use Rattle.capi.specs.declared.FlatConverter.{FlatConverter}
-use Rattle.capi.specs.Flat.{flat}
-use Rattle.capi.specs.States.{isState, stateOf}
+use Rattle.flat.specs.declared.FlatConverter.{FlatConverter}
+use Rattle.flat.specs.States.{stateOf}
 use Rattle.capi.specs.Answers.{steppedFrom, movedFrom, plannedFrom}
-
--- States and the flat forms that stand for one match one to one: the way there and back loses nothing, from either side.
-pub record RoundTrip : Type 0 where
-  pub stands : (s : Converter) → isState (flat s) ≡ true
-  pub returns : (s : Converter) → stateOf (flat s) ≡ s
-  pub returnsFlat : (f : FlatConverter) → isState f ≡ true → flat (stateOf f) ≡ f
 
 -- A refusal, whichever it is, hands back the very bytes that it was given.
 pub record HandsBack (f : FlatConverter) : Type 0 where

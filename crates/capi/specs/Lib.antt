@@ -1,5 +1,2 @@
-pub mod Codes
-pub mod Flat
-pub mod States
 pub mod Answers
 pub mod Claims

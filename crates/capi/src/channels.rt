@@ -2,14 +2,14 @@
 ghost use mathlib.Core.Path.{_≡_};
 ghost use Rattle.access.specs.Grant.{granted};
 ghost use Rattle.access.specs.Reading.{channelReading};
-ghost use Rattle.capi.specs.States.{stateOf};
+ghost use Rattle.flat.specs.States.{stateOf};
 ghost use Rattle.capi.specs.Answers.{movedFrom, readingFrom, channelPart, noPart, partFrom};
-use super::flat;
-use crate::FlatConverter;
+use super::answers;
 use crate::FlatMoved;
 use crate::FlatPart;
 use crate::FlatReading;
 use ads1299::Converter;
+use flat::FlatConverter;
 
 #[no_mangle]
 pub extern "C" fn rimevelvet_grant(
@@ -22,9 +22,13 @@ pub extern "C" fn rimevelvet_grant(
 {
     if flat::is_state(state) {
         let before = flat::state_of(state);
-        flat::flatten_moved(access::grant(before, caller, receiver, channel))
+        let granted = access::grant(before, caller, receiver, channel);
+        FlatMoved {
+            refusal: granted.refusal,
+            next: flat::flatten(granted.next),
+        }
     } else {
-        flat::reject(state)
+        answers::reject(state)
     }
 }
 

@@ -1,29 +1,12 @@
-// The library for other languages: every entry point as a C function, over a state and answers that are plain numbers.
+// The library for other languages: every entry point as a C function, over a state and answers that are plain numbers. No state is
+// kept here.
+mod answers;
 mod channels;
 mod converter;
-mod flat;
 mod program;
 mod requests;
 
-// A converter's state as bytes, by value: no state is kept here. output, phase and direction are codes, the flags 0 or 1 (flat.rt).
-// Each state has one flat form: what an empty output or a waiting converter does not use is 0. Other bytes stand for no state
-// (refusal 13).
-#[repr(C)]
-pub struct FlatConverter {
-    pub registers: [u8; 24],
-    pub owners: [u8; 8],
-    pub latest: [u8; 27],
-    pub output: u8,
-    pub place: u8,
-    pub continuous: u8,
-    pub standby: u8,
-    pub converting: u8,
-    pub shifting: [u8; 27],
-    pub phase: u8,
-    pub direction: u8,
-    pub address: u8,
-    pub remaining: u8,
-}
+use flat::FlatConverter;
 
 #[repr(C)]
 pub struct FlatPoweredUp {

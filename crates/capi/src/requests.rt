@@ -6,13 +6,12 @@ ghost use Rattle.request.specs.Writing.{written, bufferAfter};
 ghost use Rattle.planner.specs.Submission.{submission};
 ghost use Rattle.planner.specs.Planned.{planned};
 ghost use Rattle.planner.specs.Buffer.{txAfter};
-ghost use Rattle.capi.specs.States.{stateOf};
+ghost use Rattle.flat.specs.States.{stateOf};
 ghost use Rattle.capi.specs.Answers.{flatParsed, flatWritten, plannedFrom, bufferFrom};
-use super::flat;
-use crate::FlatConverter;
 use crate::FlatParsed;
 use crate::FlatPlanned;
 use crate::FlatWritten;
+use flat::FlatConverter;
 use request::Request;
 
 #[no_mangle]
@@ -74,11 +73,10 @@ pub extern "C" fn rimevelvet_plan(
             value,
         };
         let planned = live::plan_borrowed(before, party, request, tx, at);
-        let next = planned.next;
         FlatPlanned {
             refusal: planned.refusal,
             length: planned.length,
-            next: flat::flatten(next),
+            next: flat::flatten(planned.next),
         }
     } else {
         FlatPlanned {

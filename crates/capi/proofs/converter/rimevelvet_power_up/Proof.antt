@@ -8,4 +8,4 @@ rimevelvet-power-up-spec =
     (tie.spec
     (λ c κs. search needs)
     (λ c κs. search needs)
-    (λ c. simp (← c .before .before .power-up .ensures, ← c .flatten .ensures)))
+    (λ c. simp (c .before .power-up .ensures, c .flatten .ensures)))

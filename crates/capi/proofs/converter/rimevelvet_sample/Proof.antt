@@ -13,5 +13,5 @@ rimevelvet-sample-spec =
     (λ c κs. search needs)
     (λ c κs. search needs)
     (λ c κs. search needs)
-    (λ c. simp (← c .before .before .before .before .is-state .ensures, c .before .before .before .if1 .taken, ← c .before .before .state-of .ensures, ← c .before .sample .ensures, c .flatten-moved .ensures))
+    (λ c. simp (← c .before .before .before .before .is-state .ensures, c .before .before .before .if1 .taken, ← c .before .before .state-of .ensures, ← c .before .sample .ensures, ← c .flatten .ensures))
     (λ c. simp (← c .before .before .is-state .ensures, c .before .if1 .left, c .reject .ensures)))

@@ -12,5 +12,5 @@ rimevelvet-step-spec =
     (λ c κs. search needs)
     (λ c κs. search needs)
     (λ c κs. search needs)
-    (λ c. simp (← c .before .before .before .before .before .is-state .ensures, c .before .before .before .before .if1 .taken, ← c .before .before .before .state-of .ensures, ← c .before .before .step .ensures, ← c .flatten .ensures))
+    (λ c. simp (← c .before .before .before .before .is-state .ensures, c .before .before .before .if1 .taken, ← c .before .before .state-of .ensures, ← c .before .step .ensures, ← c .flatten .ensures))
     (λ c. simp (← c .before .is-state .ensures, c .if1 .left)))

@@ -14,7 +14,7 @@ rimevelvet-plan-spec =
     (λ c κs. search needs)
     (λ c. search needs)
     (λ c.
-    let t = c .before .before .before .before in
+    let t = c .before .before .before in
     let b = t .before .before in (
       simp (c .flatten .ensures, ← b .before .before .is-state .ensures, b .before .if1 .taken, ← b .state-of .ensures, ← t .plan-borrowed .ensures .0),
       simp (← b .before .before .is-state .ensures, b .before .if1 .taken, ← b .state-of .ensures, ← t .plan-borrowed .ensures .1),

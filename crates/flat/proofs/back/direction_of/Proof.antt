@@ -1,0 +1,10 @@
+use Rattle.flat.proofs.back.direction_of.Statement.{statement}
+use Rattle.flat.proofs.back.direction_of.Tie as tie
+use borrow.Author.Tests.{eq-eqb, ne-eqb}
+
+pub direction-of-spec : {M : Type 1} → statement M
+direction-of-spec =
+    tie.close
+    (tie.spec
+    (λ c. simp (eq-eqb _ _ (c .if1 .taken)))
+    (λ c. simp (ne-eqb _ _ (c .if1 .left))))

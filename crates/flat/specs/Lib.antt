@@ -1,0 +1,4 @@
+pub mod Codes
+pub mod Flat
+pub mod States
+pub mod Claims
