@@ -1,17 +1,15 @@
 -- Laws of words, their bytes, and lists of words.
 use Prim.Native.Nat.{ℕ, zero, suc, _+_, _-_, _*_, _/_, _%_, _<_, _≤_, _^_}
 use mathlib.Core.Path.{_≡_, refl, _∙_, ap}
-use mathlib.Core.Bool.{false}
 use mathlib.Core.List.{List, [], _∷_, _++_}
-use native.Mathlib.Nat.{add-zero, zero-add, div-eq-of-lt}
+use native.Mathlib.Nat.{add-zero, zero-add}
 use native.Mathlib.Omega.{arith}
 use borrow.Author.Tests.{ltb-true, ltb-false}
-use lib.Pow.{pow-mono}
 use lib.Dec.{ltb}
 use lib.ListN.{length, take, drop, getD, length-append, List·getD-append}
 use lib.Seq.{sets, sets-eq, take-at, length-take-le, getD-append-add}
 use Rattle.frame.specs.Codes.{wordCount}
-use Rattle.frame.specs.Words.{bit, word, wordBytes, wordAt, joined}
+use Rattle.frame.specs.Words.{word, wordBytes, wordAt, joined}
 use Rattle.cases.proofs.Cases.{split}
 
 pub word-small : (high middle low : ℕ) → high < 256 → middle < 256 → low < 256 → word high middle low < wordCount
@@ -87,13 +85,6 @@ module _ (words : ℕ → ℕ) where
       split (ltb i m)
       (λ t. let l = ltb-true i m t in same-word _ _ i i (λ k h. before m (3 * i + k) (omega arith)) ∙ word-joined m i l)
       (λ t. let l = ltb-false i m t in let e : i ≡ m = omega arith in rw e (same-word _ _ m 0 (λ k h. rw zero-add (last m k)) ∙ word-bytes (words m)))
-
--- a byte has no bit above bit 7
-pub bit-none : (byte place : ℕ) → byte < 256 → 8 ≤ place → bit byte place ≡ false
-unfolding bit
-bit-none byte place small high =
-    let l = pow-mono high in
-    rw (div-eq-of-lt {n = byte} {m = 2 ^ place} (omega (arith, l)))
 
 -- stores of a run, up to its end
 pub take-sets : (vs l : List ℕ) (i : ℕ) → i + length vs ≤ length l → take (i + length vs) (sets l i vs) ≡ take i l ++ vs

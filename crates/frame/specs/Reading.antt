@@ -6,8 +6,9 @@ use mathlib.Core.List.{List}
 use lib.Dec.{eqb}
 use lib.IntN.{ℤ}
 use lib.ListN.{length, take, drop, getD}
+use Rattle.bits.specs.Fields.{bit}
 use Rattle.frame.specs.Codes.{codeOf}
-use Rattle.frame.specs.Words.{bit, wordAt}
+use Rattle.frame.specs.Words.{wordAt}
 use Rattle.frame.specs.Frame.{frameMark, frameLength}
 
 -- gives the first four bits of a list of bytes

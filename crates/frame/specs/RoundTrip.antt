@@ -6,8 +6,9 @@ use mathlib.Core.List.{List, [], _∷_}
 use lib.IntN.{ℤ}
 use lib.ListN.{length, getD}
 use Rattle.registers.specs.Addresses.{GPIO, channelCount}
+use Rattle.bits.specs.Fields.{bit}
 use Rattle.frame.specs.Codes.{wordCount, inRange, allInRange, wordOf, codeOf}
-use Rattle.frame.specs.Words.{bit, word, wordBytes, wordAt}
+use Rattle.frame.specs.Words.{word, wordBytes, wordAt}
 use Rattle.frame.specs.Frame.{frameLength, shown, frameOf}
 use Rattle.frame.specs.Reading.{isFrame, channelBytes, codeAt, leadOffP, leadOffN}
 

@@ -1,13 +1,7 @@
--- Words of 24 bits as three bytes, high byte first, and the bits of a number.
+-- Words of 24 bits as three bytes, high byte first.
 use Prim.Native.Nat.{ℕ, zero, suc, _+_, _*_, _/_, _%_, _^_}
-use mathlib.Core.Bool.{Bool}
 use mathlib.Core.List.{List, [], _∷_, _++_}
-use lib.Dec.{eqb}
 use lib.ListN.{getD}
-
--- tells whether a number's bit at a place, counted from 0, is 1
-unfoldable pub bit : ℕ → ℕ → Bool
-bit number place = eqb (number / 2 ^ place % 2) 1
 
 -- gives the word that three bytes are
 unfoldable pub word : ℕ → ℕ → ℕ → ℕ

@@ -4,8 +4,9 @@ ghost use Prim.Native.Nat.{_-_, _*_, _<_, _≤_};
 ghost use lib.ListN.{getD};
 ghost use lib.Seq.{sets};
 ghost use Rattle.registers.specs.Addresses.{channelCount};
+ghost use Rattle.bits.specs.Fields.{bit};
 ghost use Rattle.frame.specs.Codes.{inRange, allInRange, wordOf, codeOf};
-ghost use Rattle.frame.specs.Words.{bit, word, wordBytes, wordAt};
+ghost use Rattle.frame.specs.Words.{word, wordBytes, wordAt};
 ghost use Rattle.frame.specs.Frame.{statusWord, shown, frameWord, frameOf};
 ghost use Rattle.frame.specs.Reading.{isFrame, codeAt, leadOffP, leadOffN};
 
@@ -99,17 +100,6 @@ fn word_bytes(word: u32) -> [u8; 3]
     ]
 }
 
-// A bit of a byte; above bit 7 all are 0.
-fn bit(byte: u8, place: u32) -> bool
-    ensures { λ r. ⌜ r ≡ bit byte place ⌝ }
-{
-    if place < 8 {
-        (byte >> place) % 2 == 1
-    } else {
-        false
-    }
-}
-
 // The first word of a frame: the mark, P, N and bits 7:4 of GPIO.
 fn status_word(p: u8, n: u8, gpio: u8) -> u32
     ensures { λ r. ⌜ r ≡ statusWord p n gpio ⌝ }
@@ -123,7 +113,7 @@ fn shown(registers: [u8; registers::COUNT], codes: &[i32], channel: usize) -> i3
     ensures { λ r. ⌜ r ≡ shown registers (now (codes .entry)) channel ⌝ }
 {
     let k = channel - 1;
-    if bit(registers[registers::CH1SET + k], 7) {
+    if bits::is_set(registers[registers::CH1SET + k], 7) {
         return 0;
     }
     if k < codes.len() { codes[k] } else { 0 }
@@ -212,9 +202,9 @@ fn channel_bit(byte: u8, channel: u32) -> bool
     ensures { λ r. ⌜ r ≡ bit byte (channel - 1) ⌝ }
 {
     if channel == 0 {
-        bit(byte, 0)
+        bits::is_set(byte, 0)
     } else {
-        bit(byte, channel - 1)
+        bits::is_set(byte, channel - 1)
     }
 }
 
