@@ -1,8 +1,8 @@
 -- The figures hold by computation.
 use mathlib.Core.Path.{refl}
 use Rattle.bits.specs.Fields.{field, bit}
-use Rattle.frame.specs.Codes.{codeOf}
-use Rattle.frame.specs.Words.{word, wordAt}
+use Rattle.codes.specs.Codes.{codeOf}
+use Rattle.codes.specs.Words.{word, wordAt}
 use Rattle.frame.specs.Reading.{leadingBits, isFrame, channelBytes, codeAt, statusP, statusN, leadOffP, leadOffN}
 use Rattle.ads1299.specs.Registers.{powerUp}
 use Rattle.ads1299.specs.PowerUp.{validId, restored, poweredUp}

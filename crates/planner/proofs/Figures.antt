@@ -1,8 +1,8 @@
 -- One claim about all the figures, by computation. Assumes nothing.
 use mathlib.Core.Path.{refl}
 use Rattle.bits.specs.Fields.{field, bit, inserted, masked}
-use Rattle.frame.specs.Codes.{wordOf, codeOf}
-use Rattle.frame.specs.Words.{word, wordBytes, wordAt, joined}
+use Rattle.codes.specs.Codes.{wordOf, codeOf}
+use Rattle.codes.specs.Words.{word, wordBytes, wordAt, joined}
 use Rattle.frame.specs.Frame.{statusWord, poweredDown, shown, frameWord, frameOf}
 use Rattle.protocol.specs.Commands.{registerCommand, decoded, acts}
 use Rattle.protocol.specs.Transfers.{begun, remainder, countable}
