@@ -1,7 +1,8 @@
 -- The figures hold by computation.
 use mathlib.Core.Path.{refl}
-use Rattle.frame.specs.Codes.{codeOf}
-use Rattle.frame.specs.Words.{word, bit, wordAt}
+use Rattle.bits.specs.Fields.{field, bit}
+use Rattle.codes.specs.Codes.{codeOf}
+use Rattle.codes.specs.Words.{word, wordAt}
 use Rattle.frame.specs.Reading.{leadingBits, isFrame, channelBytes, codeAt, statusP, statusN, leadOffP, leadOffN}
 use Rattle.ads1299.specs.Registers.{powerUp}
 use Rattle.ads1299.specs.PowerUp.{validId, restored, poweredUp}
@@ -14,5 +15,5 @@ use Rattle.access.specs.Reading.{readingRefusal, channelReading, partByt
 use Rattle.access.specs.Figures.{FiguresHold}
 
 pub figures-hold : FiguresHold
-unfolding codeOf word bit wordAt leadingBits isFrame channelBytes codeAt statusP statusN leadOffP leadOffN powerUp validId restored poweredUp validConverter valid knownParty isAdmin ownerOf owns grantRefusal reassigned granted readingRefusal channelReading partBytes
+unfolding field bit codeOf word wordAt leadingBits isFrame channelBytes codeAt statusP statusN leadOffP leadOffN powerUp validId restored poweredUp validConverter valid knownParty isAdmin ownerOf owns grantRefusal reassigned granted readingRefusal channelReading partBytes
 figures-hold = refl

@@ -14,7 +14,7 @@ use Rattle.refusal.specs.Numbers.{none}
 use Rattle.refusal.specs.First.{accepted}
 use Rattle.refusal.proofs.First.{exact}
 use Rattle.registers.specs.Addresses.{channelCount, CH1SET, GPIO, LOFF_STATP, LOFF_STATN}
-use Rattle.frame.specs.Codes.{allInRange}
+use Rattle.codes.specs.Codes.{allInRange}
 use Rattle.frame.specs.Frame.{poweredDown, shown, frameOf}
 use Rattle.frame.specs.Reading.{isFrame}
 use Rattle.frame.specs.RoundTrip.{ReadsBack}

@@ -9,8 +9,9 @@ use lib.ListN.{length, getD}
 use Rattle.refusal.specs.Numbers.{none}
 use Rattle.refusal.specs.First.{accepted}
 use Rattle.registers.specs.Addresses.{channelCount}
-use Rattle.frame.specs.Codes.{wordOf}
-use Rattle.frame.specs.Words.{bit, wordBytes}
+use Rattle.bits.specs.Fields.{bit}
+use Rattle.codes.specs.Codes.{wordOf}
+use Rattle.codes.specs.Words.{wordBytes}
 use Rattle.frame.specs.Frame.{shown}
 use Rattle.frame.specs.Reading.{leadingBits, channelBytes, leadOffP, leadOffN}
 use Rattle.ads1299.specs.declared.Converter.{Converter}

@@ -1,6 +1,6 @@
 -- The runs of bytes come out as worked by hand, by computation. Assumes nothing.
 use mathlib.Core.Path.{refl}
-use Rattle.bits.specs.Fields.{field, masked}
+use Rattle.bits.specs.Fields.{field, bit, masked}
 use Rattle.commands.specs.Commands.{registerCommand, decoded, acts}
 use Rattle.protocol.specs.Transfers.{begun, remainder, countable}
 use Rattle.ads1299.specs.Registers.{powerUp, masks, registerAt, written}
@@ -12,5 +12,5 @@ use Rattle.ads1299.specs.Run.{outs}
 use Rattle.ads1299.specs.Figures.{runs, RunsHold}
 
 pub runs-hold : RunsHold
-unfolding field masked registerCommand decoded acts begun remainder countable powerUp masks registerAt written validId restored poweredUp emptied ignored validConverter valid effect commanded counted outgoing followed stepped outs runs
+unfolding field bit masked registerCommand decoded acts begun remainder countable powerUp masks registerAt written validId restored poweredUp emptied ignored validConverter valid effect commanded counted outgoing followed stepped outs runs
 runs-hold = refl

@@ -2,9 +2,8 @@
 use Prim.Native.Nat.{ℕ}
 use mathlib.Core.Bool.{Bool}
 use mathlib.Core.List.{List}
-use lib.Dec.{eqb}
 use lib.ListN.{getD}
-use Rattle.bits.specs.Fields.{field}
+use Rattle.bits.specs.Fields.{bit}
 use Rattle.registers.specs.Addresses.{CONFIG1}
 use Rattle.protocol.specs.declared.Output.the-variants.{Empty}
 use Rattle.protocol.specs.Output.{advanced}
@@ -13,7 +12,7 @@ use Rattle.ads1299.specs.State.{withOutput}
 
 -- read-back is on: bit 6 of CONFIG1
 abbrev pub readBack : List ℕ → Bool
-readBack registers = eqb (field (getD registers CONFIG1 0) 6 1) 1
+readBack registers = bit (getD registers CONFIG1 0) 6
 
 -- gives the state with nothing to shift out; what the frame holds then is no part of the output
 unfoldable pub emptied : Converter → Converter

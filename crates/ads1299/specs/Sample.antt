@@ -8,7 +8,7 @@ use lib.ListN.{length, set}
 use Rattle.refusal.specs.Numbers.{none, invalidState, notConverting, badSample}
 use Rattle.refusal.specs.First.{firstOf, accepted}
 use Rattle.registers.specs.Addresses.{channelCount, LOFF_STATP, LOFF_STATN}
-use Rattle.frame.specs.Codes.{allInRange}
+use Rattle.codes.specs.Codes.{allInRange}
 use Rattle.frame.specs.Frame.{frameOf}
 use Rattle.ads1299.specs.declared.Converter.{Converter}
 use Rattle.ads1299.specs.declared.Moved.{Moved}

@@ -20,7 +20,7 @@ impl Converter {
         ensures { λ r. ⌜ r ≡ complete (now (codes .entry)) ⌝ }
     {
         if codes.len() == registers::CHANNELS {
-            frame::all_in_range(codes)
+            codes::all_in_range(codes)
         } else {
             false
         }

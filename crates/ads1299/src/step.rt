@@ -67,7 +67,7 @@ impl Converter {
     {
         let output = self.output;
         let registers = self.registers;
-        let again = bits::read(registers[registers::CONFIG1], 6, 1) == 1;
+        let again = bits::is_set(registers[registers::CONFIG1], 6);
         self.with_output(protocol::advance(output, again))
     }
 

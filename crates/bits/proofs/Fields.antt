@@ -1,9 +1,9 @@
 -- The laws of a byte's fields, once over place and width. Assumes nothing.
 use mathlib.Core.Path.{subst, _≡_, sym, _∙_, ap}
 use Prim.Native.Nat.{ℕ, zero, suc, _+_, _*_, _/_, _%_, _^_, _-_, _≤_, _<_}
-use native.Mathlib.Nat.{sub-add-cancel, mod-lt, add-sub-of-le}
+use native.Mathlib.Nat.{sub-add-cancel, mod-lt, add-sub-of-le, div-eq-of-lt, zero-mod}
 use native.Mathlib.Omega.{arith}
-use lib.Pow.{shr-lt, pow-pos, pow-add, high, low, field, mod-mod-pow, shr-shr}
+use lib.Pow.{shr-lt, pow-pos, pow-mono, pow-add, high, low, field, mod-mod-pow, shr-shr}
 use lib.Arith.{digits-lt}
 use Rattle.bits.specs.Fields.{inserted}
 use Rattle.bits.specs.Fields as fields
@@ -47,6 +47,13 @@ replaced b p w v h =
       below = λ q u le. rw (← field (inserted b p w v) u q, ← field b u q, ← mod-by (inserted b p w v) le, ← mod-by b le, low-kept);
       small = λ n le hb. inserted-lt n b p w v h le hb;
     }
+
+-- above a byte every field is 0
+pub field-none : (b p w : ℕ) → b < 256 → 8 ≤ p → fields.field b p w ≡ 0
+unfolding fields.field
+field-none b p w small high =
+    let l : 2 ^ 8 ≤ 2 ^ p = pow-mono high in
+    rw (div-eq-of-lt {n = b} {m = 2 ^ p} (omega arith)) (zero-mod (2 ^ w))
 
 -- bit i of a field is bit p + i of the byte
 pub bit-of-field : (b p w i : ℕ) → i < w → fields.field (fields.field b p w) i 1 ≡ fields.field b (p + i) 1

@@ -9,7 +9,7 @@ use borrow.Author.Tests.{eqb-true, eqb-false, leb-true, leb-false}
 use lib.Dec.{eqb, leb}
 use lib.Pow.{pow-pos, shr-shr}
 use lib.Bits.{bitAnd, and-step, and-le-r}
-use Rattle.bits.specs.Fields.{field, inserted, masked}
+use Rattle.bits.specs.Fields.{field, bit, inserted, masked}
 use Rattle.bits.specs.Laws.{Selects, PassesMask}
 use Rattle.cases.proofs.Cases.{split}
 use Rattle.bits.proofs.Fields.{replaced, same-bits, bit-of-field}
@@ -44,13 +44,14 @@ bit-zero : (x : ℕ) → field x 0 1 ≡ x % 2
 unfolding field
 bit-zero x = omega arith
 
-over-bit : (k old m new i : ℕ) → m < 2 ^ k → i < k → field (over k old m new) i 1 ≡ cond (eqb (field m i 1) 1) (field new i 1) (field old i 1)
+over-bit : (k old m new i : ℕ) → m < 2 ^ k → i < k → field (over k old m new) i 1 ≡ cond (bit m i) (field new i 1) (field old i 1)
+unfolding bit
 over-bit zero old m new i h lt = absurd (omega arith)
 over-bit (suc k) old m new zero h lt =
     let e = over-step k old m new h in
     let c = cond (eqb (m % 2) 1) (new % 2) (old % 2) in
     let small : c < 2 = split (eqb (m % 2) 1) (λ t. rw t (omega arith)) (λ t. rw t (omega arith)) in
-    rw (bit-zero, bit-zero m, bit-zero new, bit-zero old) (omega arith)
+    rw (bit-zero (over (suc k) old m new), bit-zero m, bit-zero new, bit-zero old) (omega arith)
 over-bit (suc k) old m new (suc i) h lt =
     let p : 2 ^ suc k ≡ 2 ^ k * 2 = pow-suc 2 k in
     let e = over-step k old m new h in
@@ -73,11 +74,12 @@ all-ones (suc w) (suc i) lt =
     bit-up (2 ^ suc w - 1) i ∙ rw half (all-ones w i (omega arith))
 
 pub passes-mask : (b p w v mask : ℕ) → b < 256 → mask < 256 → v < 2 ^ w → w + p ≤ 8 → PassesMask b p w v mask
+unfolding bit
 passes-mask b p w v mask hb hm hv le covers =
     let new = inserted b p w v in
     let r = replaced b p w v hv in
     same-bits 8 (masked b mask new) new (masked-lt b mask new hm) (r .small 8 le hb)
-    (λ i lt. selects b mask new hm i lt ∙ split (eqb (field mask i 1) 1) (λ e. rw e) (λ e. rw e
+    (λ i lt. selects b mask new hm i lt ∙ split (bit mask i) (λ e. rw e) (λ e. rw e
     (split (leb (1 + i) p) (λ f. sym (r .below i 1 (leb-true (1 + i) p f)))
     (λ f. split (leb (w + p) i) (λ g. sym (r .above i 1 (leb-true (w + p) i g)))
     (λ g.

@@ -1,12 +1,16 @@
 -- A field of a byte: the w bits from bit p on. Read, replaced, and a write through a mask.
 use Prim.Native.Nat.{ℕ, _+_, _-_, _*_, _/_, _%_, _^_}
 use mathlib.Core.Bool.{Bool, _&&_}
-use lib.Dec.{leb, ltb}
+use lib.Dec.{leb, ltb, eqb}
 use lib.Bits.{bitAnd}
 
 -- gives the value of the field
 unfoldable pub field : ℕ → ℕ → ℕ → ℕ
 field b p w = b / 2 ^ p % 2 ^ w
+
+-- tells whether a number's bit at a place, counted from 0, is 1
+unfoldable pub bit : ℕ → ℕ → Bool
+bit number place = eqb (field number place 1) 1
 
 -- gives the byte with v in the field: what stands above it, v, what stands below it
 unfoldable pub inserted : ℕ → ℕ → ℕ → ℕ → ℕ

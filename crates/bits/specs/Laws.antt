@@ -2,8 +2,7 @@
 use Prim.Native.Nat.{ℕ, _+_, _-_, _^_, _≤_, _<_}
 use mathlib.Core.Bool.{cond}
 use mathlib.Core.Path.{_≡_}
-use lib.Dec.{eqb}
-use Rattle.bits.specs.Fields.{field, inserted, masked}
+use Rattle.bits.specs.Fields.{field, bit, inserted, masked}
 
 -- A field that is set reads as its value, every field beside it reads as before, and the byte stays a byte.
 pub record Replaced (b p w v : ℕ) : Type 0 where
@@ -14,7 +13,7 @@ pub record Replaced (b p w v : ℕ) : Type 0 where
 
 -- A write through a mask takes the new byte's bits where the mask has them, and the old byte's elsewhere.
 abbrev pub Selects : ℕ → ℕ → ℕ → Type 0
-Selects old mask new = (i : ℕ) → i < 8 → field (masked old mask new) i 1 ≡ cond (eqb (field mask i 1) 1) (field new i 1) (field old i 1)
+Selects old mask new = (i : ℕ) → i < 8 → field (masked old mask new) i 1 ≡ cond (bit mask i) (field new i 1) (field old i 1)
 
 -- The mask has every bit of the field.
 abbrev pub Covers : ℕ → ℕ → ℕ → Type 0

@@ -2,7 +2,7 @@
 ghost use mathlib.Core.Path.{_≡_};
 ghost use mathlib.Core.Bool.{cond};
 ghost use Prim.Native.Nat.{_≤_, _^_};
-ghost use Rattle.bits.specs.Fields.{field, inserted, insertable, masked};
+ghost use Rattle.bits.specs.Fields.{field, bit, inserted, insertable, masked};
 
 // 2 to the power of k.
 fn power(k: u8) -> u32
@@ -24,6 +24,17 @@ pub fn read(byte: u8, bit: u8, width: u8) -> u8
         return from as u8;
     }
     (from % power(width)) as u8
+}
+
+// Whether the bit at a place is 1; a place above the byte has none.
+pub fn is_set(byte: u8, place: u32) -> bool
+    ensures { λ r. ⌜ r ≡ bit byte place ⌝ }
+{
+    if place < 8 {
+        read(byte, place as u8, 1) == 1
+    } else {
+        false
+    }
 }
 
 // Whether the field lies within a byte, and the value within the field.

@@ -5,8 +5,8 @@ use mathlib.Core.List.{List}
 use Prim.Native.Nat.{ℕ, _-_, _^_}
 use lib.Dec.{eqb}
 use lib.ListN.{getD}
-use borrow.Author.Tests.{eqb-true, eq-eqb, ne-eqb, not-true}
-use Rattle.bits.specs.Fields.{field}
+use borrow.Author.Tests.{eqb-true, ne-eqb, not-true}
+use Rattle.bits.specs.Fields.{field, bit}
 use Rattle.cases.specs.Below.{below}
 use Rattle.cases.proofs.Below.{below-at}
 use Rattle.registers.specs.Addresses.{registerCount, GPIO}
@@ -24,9 +24,9 @@ inside-masks masks h f n k =
 pub fills-masks : (masks : List ℕ) → fillsMasks masks ≡ true → FillsMasks masks
 unfolding fillsMasks
 fills-masks masks h r i hr hi ne one =
-    let bit : ℕ → Bool = λ j. not (eqb (field (getD masks r 0) j 1) 1) || not (everyName (λ f n. apart (place f n) (bitAt r j))) in
-    let at : (eqb r GPIO || below 8 bit) ≡ true =
+    let filled : ℕ → Bool = λ j. not (bit (getD masks r 0) j) || not (everyName (λ f n. apart (place f n) (bitAt r j))) in
+    let at : (eqb r GPIO || below 8 filled) ≡ true =
     below-at registerCount (λ r. eqb r GPIO
-    || below 8 (λ i. not (eqb (field (getD masks r 0) i 1) 1) || not (everyName (λ f n. apart (place f n) (bitAt r i))))) h r hr in
-    let e = below-at 8 bit (rw (ne-eqb r GPIO ne) at at) i hi in
-    every-find (λ f n. apart (place f n) (bitAt r i)) (not-true _ (rw (eq-eqb (field (getD masks r 0) i 1) 1 one) at e))
+    || below 8 (λ i. not (bit (getD masks r 0) i) || not (everyName (λ f n. apart (place f n) (bitAt r i))))) h r hr in
+    let e = below-at 8 filled (rw (ne-eqb r GPIO ne) at at) i hi in
+    every-find (λ f n. apart (place f n) (bitAt r i)) (not-true _ (rw one at e))

@@ -5,7 +5,7 @@ use mathlib.Core.Path.{_≡_}
 use Prim.Native.Nat.{ℕ, _-_, _^_, _<_}
 use lib.Dec.{eqb}
 use lib.ListN.{getD}
-use Rattle.bits.specs.Fields.{field}
+use Rattle.bits.specs.Fields.{field, bit}
 use Rattle.bits.specs.Laws.{Covers}
 use Rattle.cases.specs.Below.{below}
 use Rattle.registers.specs.Addresses.{registerCount, GPIO}
@@ -19,7 +19,7 @@ InsideMasks masks = (f n : ℕ) → named f n ≡ true → Covers (getD masks (p
 
 -- Every bit of a mask is in a field, but those of GPIO, which no request sets.
 abbrev pub FillsMasks : List ℕ → Type 0
-FillsMasks masks = (r i : ℕ) → r < registerCount → i < 8 → (r ≡ GPIO → ⊥) → field (getD masks r 0) i 1 ≡ 1 → InField r i
+FillsMasks masks = (r i : ℕ) → r < registerCount → i < 8 → (r ≡ GPIO → ⊥) → bit (getD masks r 0) i ≡ true → InField r i
 
 -- tests that every field lies inside its mask
 unfoldable pub insideMasks : List ℕ → Bool
@@ -30,4 +30,4 @@ insideMasks masks =
 unfoldable pub fillsMasks : List ℕ → Bool
 fillsMasks masks =
     below registerCount (λ r. eqb r GPIO
-    || below 8 (λ i. not (eqb (field (getD masks r 0) i 1) 1) || not (everyName (λ f n. apart (place f n) (bitAt r i)))))
+    || below 8 (λ i. not (bit (getD masks r 0) i) || not (everyName (λ f n. apart (place f n) (bitAt r i)))))

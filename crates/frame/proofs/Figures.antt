@@ -1,10 +1,11 @@
 -- The figures hold by computation.
 use mathlib.Core.Path.{refl}
-use Rattle.frame.specs.Codes.{wordOf, codeOf}
-use Rattle.frame.specs.Words.{word, bit, wordBytes, wordAt, joined}
+use Rattle.bits.specs.Fields.{field, bit}
+use Rattle.codes.specs.Codes.{wordOf}
+use Rattle.codes.specs.Words.{wordBytes, joined}
 use Rattle.frame.specs.Frame.{statusWord, poweredDown, shown, frameWord, frameOf}
 use Rattle.frame.specs.Figures.{FiguresHold}
 
 pub figures-hold : FiguresHold
-unfolding wordOf codeOf word bit wordBytes wordAt joined statusWord poweredDown shown frameWord frameOf
+unfolding field bit wordOf wordBytes joined statusWord poweredDown shown frameWord frameOf
 figures-hold = refl

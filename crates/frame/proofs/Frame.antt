@@ -9,13 +9,14 @@ use lib.IntN.{ℤ}
 use lib.ListN.{length, getD, length-take, length-drop}
 use lib.Seq.{getD-take, getD-drop}
 use Rattle.registers.specs.Addresses.{GPIO, channelCount}
-use Rattle.frame.specs.Codes.{wordCount, inRange, allInRange, wordOf}
-use Rattle.frame.specs.Words.{word, wordBytes, wordAt}
+use Rattle.bits.specs.Fields.{field}
+use Rattle.codes.specs.Codes.{wordCount, inRange, allInRange, wordOf}
+use Rattle.codes.specs.Words.{word, wordBytes, wordAt}
 use Rattle.frame.specs.Frame.{frameLength, frameMark, statusWord, poweredDown, shown, frameWord, frameOf}
 use Rattle.frame.specs.Reading.{leadingBits, channelBytes, statusP, statusN}
-use Rattle.frame.proofs.Codes.{word-lt, all-at}
+use Rattle.codes.proofs.Codes.{word-lt, all-at}
 use Rattle.cases.proofs.Cases.{split}
-use Rattle.frame.proofs.Words.{three-bytes, length-joined, joined-lt, word-joined}
+use Rattle.codes.proofs.Words.{three-bytes, length-joined, joined-lt, word-joined}
 use Rattle.frame.proofs.Reading.{channel-word}
 
 pub shown-range : (registers : List ℕ) (codes : List ℤ) → allInRange codes ≡ true → (channel : ℕ) → inRange (shown registers codes channel) ≡ true
@@ -56,11 +57,11 @@ module _ (registers : List ℕ) (codes : List ℤ) (p n : ℕ) where
     frame-status = frame-word 0 (omega arith) ∙ omega arith
 
     pub frame-p : statusP frame ≡ p
-    unfolding statusP statusWord
+    unfolding field statusP statusWord
     frame-p = rw frame-status (omega arith)
 
     pub frame-n : statusN frame ≡ n
-    unfolding statusN statusWord
+    unfolding field statusN statusWord
     frame-n = rw frame-status (omega arith)
 
     pub frame-marked : leadingBits frame ≡ frameMark

@@ -1,5 +1,3 @@
-pub mod Codes
-pub mod Words
 pub mod Reading
 pub mod Frame
 pub mod RoundTrip

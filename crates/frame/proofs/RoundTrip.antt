@@ -1,27 +1,12 @@
--- Codes and frames come back as they went in.
-use Prim.Native.Nat.{_%_}
-use mathlib.Core.Path.{_≡_, sym, _∙_, ap}
-use native.Mathlib.Omega.{arith}
-use Rattle.frame.specs.Codes.{wordCount, wordOf, codeOf}
-use Rattle.frame.specs.Words.{word, wordBytes}
+-- Frames say what went in.
+use mathlib.Core.Path.{sym, _∙_, ap}
+use Rattle.codes.specs.Codes.{codeOf}
+use Rattle.codes.specs.Words.{wordBytes}
 use Rattle.frame.specs.Frame.{shown}
 use Rattle.frame.specs.Reading.{isFrame, codeAt, leadOffP, leadOffN}
-use Rattle.frame.specs.RoundTrip.{Codec, FramesReadBack}
-use Rattle.frame.proofs.Codes.{word-lt, code-word, word-code, code-range}
-use Rattle.frame.proofs.Words.{word-bytes, bytes-word, word-small}
+use Rattle.frame.specs.RoundTrip.{FramesReadBack}
+use Rattle.codes.proofs.Codes.{code-word}
 use Rattle.frame.proofs.Frame.{frame-length, frame-bytes, channel-shown, shown-range, frame-part, frame-p, frame-n, frame-marked}
-
-pub codec : Codec
-codec = record {
-  word-lt = word-lt;
-  code-range = code-range;
-  code-word = code-word;
-  word-code = word-code;
-  word-bytes = λ w h. word-bytes w ∙ omega arith;
-  bytes-word = bytes-word;
-  code-bytes = λ z r. let l = word-lt z in let e : wordOf z % wordCount ≡ wordOf z = omega arith in ap codeOf (word-bytes (wordOf z) ∙ e) ∙ code-word z r;
-  bytes-code = λ a b c ha hb hc. ap wordBytes (word-code (word a b c) (word-small a b c ha hb hc)) ∙ bytes-word a b c ha hb hc;
-}
 
 pub frames-read-back : FramesReadBack
 unfolding isFrame codeAt leadOffP leadOffN

@@ -1,33 +1,23 @@
--- The figures of document 01 about codes and frames, in one table.
+-- The figures of document 01 about frames, in one table.
 use Prim.Native.Nat.{ℕ}
 use mathlib.Core.Path.{_≡_}
 use mathlib.Core.List.{List, [], _∷_, map}
-use lib.IntN.{ℤ, pos, negℤ}
 use lib.ListN.{take, set, replicate}
 use Rattle.registers.specs.Addresses.{GPIO, registerCount}
-use Rattle.frame.specs.Codes.{wordOf, codeOf}
-use Rattle.frame.specs.Words.{wordBytes, wordAt}
 use Rattle.frame.specs.Frame.{frameOf}
 
--- three bytes with their code; or P, N and GPIO with the first three bytes of the frame
+-- P, N and GPIO with the first three bytes of the frame
 pub data Figure : Type 0 where
-  code : List ℕ → ℤ → Figure
   head : ℕ → ℕ → ℕ → List ℕ → Figure
 
--- gives a figure worked out anew: the bytes from the code and the code from the bytes; or the bytes from P, N and GPIO
+-- gives a figure worked out anew: the bytes from P, N and GPIO
 abbrev pub workedOut : Figure → Figure
-workedOut (code bytes z) = code (wordBytes (wordOf z)) (codeOf (wordAt bytes 0))
 workedOut (head p n gpio bytes) = head p n gpio (take 3 (frameOf (set (replicate registerCount 0) GPIO gpio) [] p n))
 
 -- gives the table
 abbrev pub figures : List Figure
 figures =
-    code (0x7F ∷ 0xFF ∷ 0xFF ∷ []) (pos 8388607)
-    ∷ code (0x80 ∷ 0x00 ∷ 0x00 ∷ []) (negℤ (pos 8388608))
-    ∷ code (0xFF ∷ 0xFF ∷ 0xFF ∷ []) (negℤ (pos 1))
-    ∷ code (0x00 ∷ 0x00 ∷ 0x00 ∷ []) (pos 0)
-    ∷ code (0x00 ∷ 0x00 ∷ 0x01 ∷ []) (pos 1)
-    ∷ head 0x01 0x80 0x0F (0xC0 ∷ 0x18 ∷ 0x00 ∷ [])
+    head 0x01 0x80 0x0F (0xC0 ∷ 0x18 ∷ 0x00 ∷ [])
     ∷ head 0xA5 0x3C 0x8F (0xCA ∷ 0x53 ∷ 0xC8 ∷ [])
     ∷ []
 

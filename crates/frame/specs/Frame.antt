@@ -6,8 +6,9 @@ use lib.Dec.{eqb}
 use lib.IntN.{ℤ, pos}
 use lib.ListN.{getD}
 use Rattle.registers.specs.Addresses.{CH1SET, GPIO, channelCount}
-use Rattle.frame.specs.Codes.{wordOf}
-use Rattle.frame.specs.Words.{bit, joined}
+use Rattle.bits.specs.Fields.{bit}
+use Rattle.codes.specs.Codes.{wordOf}
+use Rattle.codes.specs.Words.{joined}
 
 -- gives the number of bytes of a frame
 abbrev pub frameLength : ℕ

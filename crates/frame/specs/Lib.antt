@@ -1,5 +1,3 @@
-pub mod Codes
-pub mod Words
 pub mod Frame
 pub mod Reading
 pub mod RoundTrip

@@ -1,13 +1,14 @@
 -- What a frame says of a channel (document 01, "Samples and frames").
-use Prim.Native.Nat.{ℕ, _-_, _*_, _/_, _%_, _^_}
+use Prim.Native.Nat.{ℕ, _-_, _*_, _/_, _^_}
 use mathlib.Core.Path.{_≡_}
 use mathlib.Core.Bool.{Bool, _&&_}
 use mathlib.Core.List.{List}
 use lib.Dec.{eqb}
 use lib.IntN.{ℤ}
 use lib.ListN.{length, take, drop, getD}
-use Rattle.frame.specs.Codes.{codeOf}
-use Rattle.frame.specs.Words.{bit, wordAt}
+use Rattle.bits.specs.Fields.{field, bit}
+use Rattle.codes.specs.Codes.{codeOf}
+use Rattle.codes.specs.Words.{wordAt}
 use Rattle.frame.specs.Frame.{frameMark, frameLength}
 
 -- gives the first four bits of a list of bytes
@@ -28,11 +29,11 @@ codeAt frame channel = codeOf (wordAt frame channel)
 
 -- gives P, the status word's bits 19:12
 unfoldable pub statusP : List ℕ → ℕ
-statusP frame = wordAt frame 0 / 2 ^ 12 % 2 ^ 8
+statusP frame = field (wordAt frame 0) 12 8
 
 -- gives N, the status word's bits 11:4
 unfoldable pub statusN : List ℕ → ℕ
-statusN frame = wordAt frame 0 / 2 ^ 4 % 2 ^ 8
+statusN frame = field (wordAt frame 0) 4 8
 
 -- tells whether a channel's bit of P is 1; channel 0 counts as 1, and a channel above 8 has none
 unfoldable pub leadOffP : List ℕ → ℕ → Bool

@@ -1,28 +1,16 @@
--- Claims: codes and frames come back as they went in. The theorems are in proofs/RoundTrip.antt.
+-- The claim that frames say what went in. The theorem is in proofs/RoundTrip.antt.
 use Prim.Native.Nat.{ℕ, _-_, _<_, _≤_}
 use mathlib.Core.Path.{_≡_}
 use mathlib.Core.Bool.{true}
-use mathlib.Core.List.{List, [], _∷_}
+use mathlib.Core.List.{List}
 use lib.IntN.{ℤ}
 use lib.ListN.{length, getD}
 use Rattle.registers.specs.Addresses.{GPIO, channelCount}
-use Rattle.frame.specs.Codes.{wordCount, inRange, allInRange, wordOf, codeOf}
-use Rattle.frame.specs.Words.{bit, word, wordBytes, wordAt}
+use Rattle.bits.specs.Fields.{bit}
+use Rattle.codes.specs.Codes.{allInRange, wordOf}
+use Rattle.codes.specs.Words.{wordBytes}
 use Rattle.frame.specs.Frame.{frameLength, shown, frameOf}
 use Rattle.frame.specs.Reading.{isFrame, channelBytes, codeAt, leadOffP, leadOffN}
-
--- codes and words determine each other, words and three bytes too, and so codes and three bytes
-pub record Codec : Type 0 where
-  pub word-lt : (z : ℤ) → wordOf z < wordCount
-  pub code-range : (w : ℕ) → w < wordCount → inRange (codeOf w) ≡ true
-  pub code-word : (z : ℤ) → inRange z ≡ true → codeOf (wordOf z) ≡ z
-  pub word-code : (w : ℕ) → w < wordCount → wordOf (codeOf w) ≡ w
-  pub word-bytes : (w : ℕ) → w < wordCount → wordAt (wordBytes w) 0 ≡ w
-  pub bytes-word : (high middle low : ℕ) → high < 256 → middle < 256 → low < 256
-      → wordBytes (word high middle low) ≡ high ∷ middle ∷ low ∷ []
-  pub code-bytes : (z : ℤ) → inRange z ≡ true → codeOf (wordAt (wordBytes (wordOf z)) 0) ≡ z
-  pub bytes-code : (high middle low : ℕ) → high < 256 → middle < 256 → low < 256
-      → wordBytes (wordOf (codeOf (word high middle low))) ≡ high ∷ middle ∷ low ∷ []
 
 -- a frame says of each channel what went in: its code, or 0 where it is powered down, and its bits of P and N
 pub record ReadsBack (registers : List ℕ) (codes : List ℤ) (p n : ℕ) (frame : List ℕ) : Type 0 where

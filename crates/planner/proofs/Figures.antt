@@ -1,8 +1,8 @@
 -- One claim about all the figures, by computation. Assumes nothing.
 use mathlib.Core.Path.{refl}
-use Rattle.bits.specs.Fields.{field, inserted, masked}
-use Rattle.frame.specs.Codes.{wordOf, codeOf}
-use Rattle.frame.specs.Words.{bit, word, wordBytes, wordAt, joined}
+use Rattle.bits.specs.Fields.{field, bit, inserted, masked}
+use Rattle.codes.specs.Codes.{wordOf, codeOf}
+use Rattle.codes.specs.Words.{word, wordBytes, wordAt, joined}
 use Rattle.frame.specs.Frame.{statusWord, poweredDown, shown, frameWord, frameOf}
 use Rattle.commands.specs.Commands.{registerCommand, decoded, acts}
 use Rattle.protocol.specs.Transfers.{begun, remainder, countable}
@@ -25,5 +25,5 @@ use Rattle.planner.specs.Planned.{refusalOf, plan, planned}
 use Rattle.planner.specs.Figures.{FiguresHold}
 
 pub figures-hold : FiguresHold
-unfolding field inserted masked wordOf codeOf bit word wordBytes wordAt joined statusWord poweredDown shown frameWord frameOf registerCommand decoded acts begun remainder countable powerUp masks registerAt written validId restored poweredUp emptied ignored validConverter valid effect commanded counted outgoing followed stepped after outs knownParty ownerOf table rowOf named place fits legal settable fieldByte judged planOf refusalOf plan planned
+unfolding field bit inserted masked wordOf codeOf word wordBytes wordAt joined statusWord poweredDown shown frameWord frameOf registerCommand decoded acts begun remainder countable powerUp masks registerAt written validId restored poweredUp emptied ignored validConverter valid effect commanded counted outgoing followed stepped after outs knownParty ownerOf table rowOf named place fits legal settable fieldByte judged planOf refusalOf plan planned
 figures-hold = refl

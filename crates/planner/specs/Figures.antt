@@ -7,8 +7,8 @@ use lib.IntN.{ℤ, pos, negℤ}
 use lib.ListN.{replicate, set, take}
 use Rattle.registers.specs.Addresses.{CONFIG1, CH1SET, BIAS_SENSP, GPIO, registerCount}
 use Rattle.request.specs.Requests.{request}
-use Rattle.frame.specs.Codes.{wordOf, codeOf}
-use Rattle.frame.specs.Words.{wordBytes, wordAt}
+use Rattle.codes.specs.Codes.{wordOf, codeOf}
+use Rattle.codes.specs.Words.{wordBytes, wordAt}
 use Rattle.frame.specs.Frame.{frameOf}
 use Rattle.protocol.specs.declared.Direction.the-variants.{Read}
 use Rattle.protocol.specs.declared.Output.the-variants.{At}

@@ -1,11 +1,12 @@
 use Prim.Native.Nat.{_/_, _^_, _≤_}
+use Rattle.bits.proofs.Fields.{field-none}
 use Rattle.bits.proofs.read.Statement.{statement}
 use Rattle.bits.proofs.read.Tie as tie
 use Rattle.bits.specs.Fields.{field}
 use borrow.Author.Needs.{needs}
 use lib.Pow.{pow-pos, pow-mono}
 use mathlib.Core.Path.{sym}
-use native.Mathlib.Nat.{div-eq-of-lt, div-le-self, mod-eq-of-lt, mod-le, zero-mod}
+use native.Mathlib.Nat.{div-le-self, mod-eq-of-lt, mod-le}
 use native.Mathlib.Omega.{arith}
 
 pub read-spec : {M : Type 1} → statement M
@@ -13,10 +14,7 @@ unfolding field
 read-spec =
     tie.close
     (tie.spec
-    (λ c.
-    let a = c .before .args in
-    let big : 2 ^ 8 ≤ 2 ^ a .bit = pow-mono (c .if1 .taken) in
-    rw (div-eq-of-lt {n = a .byte} {m = 2 ^ a .bit} (omega arith)) (sym (zero-mod (2 ^ a .width))))
+    (λ c. let a = c .before .args in sym (field-none (a .byte) (a .bit) (a .width) (omega arith) (omega arith)))
     (λ c κs. search needs)
     (λ c. rw (c .power .ensures) (pow-pos _))
     (λ c. let a = c .before .before .before .args in omega (arith, div-le-self (a .byte) (c .before .power .result)))

@@ -1,42 +1,70 @@
 use Rattle.frame.proofs.build.Statement.{statement}
 use Rattle.frame.proofs.build.Tie as tie
-use Rattle.frame.proofs.Words.{length-bytes, take-sets}
-use Rattle.frame.specs.Words.{wordBytes, joined}
+use Rattle.codes.specs.Words.{wordBytes, joined}
+use Rattle.codes.proofs.Words.{length-bytes}
 use Rattle.frame.specs.Frame.{frameWord, frameOf}
-use Prim.Native.Nat.{_≤_, _-_, _*_, _+_}
+use Prim.Native.Nat.{ℕ, _≤_, _-_, _*_, _+_}
 use borrow.Author.Needs.{needs}
-use lib.ListN.{length, take}
-use lib.Seq.{take-all, length-sets}
+use denote.Ref.{now}
+use lib.ListN.{length, take, drop, getD, set, length-append}
+use lib.Seq.{sets, sets-eq, take-at, take-all, length-sets, length-take-le}
+use mathlib.Core.List.{List, _++_}
 use mathlib.Core.Path.{_≡_, refl, sym, _∙_, ap}
-use native.Mathlib.Numerals.{add-one}
+use native.Mathlib.Numerals.{add-one, add-two}
 use native.Mathlib.Omega.{arith}
 
--- the words so far stand in the frame
+-- the words before word i stand in the frame
+record Standing (words : ℕ → ℕ) (frame : List ℕ) (i : ℕ) : Type 0 where
+  long : length frame ≡ 27
+  so-far : take (3 * i) frame ≡ joined words i
+
 abbrev Inv-loop : tie.InvT-loop
-Inv-loop registers codes p n frame₀ i₀ frame i = (i ≤ 9) × (length frame ≡ 27) × (take (3 * i) frame ≡ joined (frameWord registers codes p n) i)
+Inv-loop registers codes p n frame₀ i₀ frame i = (i ≤ 9) × Standing (frameWord registers codes p n) frame i
 
 abbrev μ-loop : tie.MeasureT-loop
 μ-loop registers codes p n frame₀ i₀ frame i = 9 - i
 
+-- stores of a run, up to its end
+take-sets : (vs l : List ℕ) (i : ℕ) → i + length vs ≤ length l → take (i + length vs) (sets l i vs) ≡ take i l ++ vs
+take-sets vs l i h =
+    rw (sets-eq vs l i h)
+    (take-at (take i l ++ vs) (drop (i + length vs) l) (i + length vs) (length-append (take i l) vs ∙ ap (λ (n : ℕ). n + length vs) (length-take-le i l (omega arith))))
+
+-- the frame with the three bytes of word i stored
+abbrev next : List ℕ → List ℕ → ℕ → List ℕ
+next frame bytes i = set (set (set frame (3 * i) (getD bytes 0 0)) (3 * i + 1) (getD bytes 1 0)) (3 * i + 2) (getD bytes 2 0)
+
+stored : (frame : List ℕ) (w i : ℕ) → next frame (wordBytes w) i ≡ sets frame (3 * i) (wordBytes w)
+unfolding wordBytes
+stored frame w i = simp (add-one, add-two)
+
+grown : (words : ℕ → ℕ) (frame bytes : List ℕ) (i : ℕ) → i ≤ 8 → bytes ≡ wordBytes (words i) → Standing words frame i → Standing words (next frame bytes i) (i + 1)
+unfolding joined
+grown words frame bytes i le same s =
+    let w = words i in
+    let e : 3 * (i + 1) ≡ 3 * i + length (wordBytes w) = omega (arith, length-bytes w) in
+    rw (same, stored frame w i)
+    (record {
+      long = length-sets frame (3 * i) (wordBytes w) ∙ s .long;
+      so-far = rw (e, add-one) (take-sets (wordBytes w) frame (3 * i) (omega arith) ∙ ap (λ (xs : List ℕ). xs ++ wordBytes w) (s .so-far));
+    })
+
 loop-holds : tie.Need-loop-holds Inv-loop μ-loop
 unfolding joined
-loop-holds c = (omega arith, refl, refl)
+loop-holds c = (omega arith, record { long = refl; so-far = refl })
 
 loop-again : tie.Need-loop-again Inv-loop μ-loop
-unfolding joined
 loop-again c =
-    let h = c .before .before .before .loop in
-    let w = c .before .frame-word .result in
-    let put = c .put .ensures in
-    let e : 3 * (h .i + 1) ≡ 3 * h .i + length (wordBytes w) = omega (arith, length-bytes w) in
-    (omega arith, ap length put ∙ length-sets (h .frame) (3 * h .i) (wordBytes w) ∙ h .inv .1, rw (e, put, add-one, take-sets (wordBytes w) (h .frame) (3 * h .i) (omega arith), h .inv .2, c .before .frame-word .ensures))
+    let h = c .before .before .loop in
+    let a = c .before .before .before .args in
+    (omega arith, grown (frameWord (a .registers) (now (a .codes)) (a .p) (a .n)) (h .frame) (c .part .result) (h .i) (omega arith) (c .part .ensures) (h .inv .1))
 
 returns : tie.Need-returns Inv-loop μ-loop
 unfolding frameOf
 returns c =
     let h = c .before .loop in
     let e : h .i ≡ 9 = omega arith in
-    sym (take-all 27 (h .frame) (omega arith)) ∙ (rw e at (h .inv .2))
+    sym (take-all 27 (h .frame) (omega arith)) ∙ (rw e at (h .inv .1 .so-far))
 
 pub build-spec : {M : Type 1} → statement M
 build-spec =
@@ -45,6 +73,7 @@ build-spec =
     Inv-loop
     μ-loop
     loop-holds
-    (λ c κs. search needs) (λ c κs. search needs) (λ c. search needs) (λ c. search needs)
+    (λ c κs. search needs) (λ c. search needs) (λ c. search needs) (λ c. search needs) (λ c. search needs) (λ c. search needs)
+    (λ c. search needs) (λ c. search needs) (λ c. search needs) (λ c. search needs) (λ c. search needs) (λ c. search needs)
     loop-again
     returns)

@@ -1,6 +1,5 @@
 use Rattle.frame.proofs.channel_bit.Statement.{statement}
 use Rattle.frame.proofs.channel_bit.Tie as tie
-use Rattle.frame.specs.Words.{bit}
 use Prim.Native.Nat.{_-_}
 use borrow.Author.Needs.{needs}
 use mathlib.Core.Path.{_≡_}
@@ -11,5 +10,5 @@ channel-bit-spec =
     tie.close
     (tie.spec
     (λ c κs. search needs) (λ c. search needs) (λ c κs. search needs)
-    (λ c. let e : c .before .before .args .channel - 1 ≡ 0 = omega arith in rw e (c .bit .ensures))
+    (λ c. let e : c .before .before .args .channel - 1 ≡ 0 = omega arith in rw e (c .is-set .ensures))
     (λ c. search needs))

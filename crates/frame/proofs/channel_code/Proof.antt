@@ -1,6 +1,6 @@
 use Rattle.frame.proofs.channel_code.Statement.{statement}
 use Rattle.frame.proofs.channel_code.Tie as tie
-use Rattle.frame.specs.Words.{wordAt}
+use Rattle.codes.specs.Words.{wordAt}
 use Rattle.frame.specs.Reading.{codeAt}
 use borrow.Author.Needs.{needs}
 use mir.Facts.{toZ-ofZ}

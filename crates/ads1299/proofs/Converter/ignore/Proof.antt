@@ -12,4 +12,4 @@ ignore-spec =
     (λ c κs. search needs)
     (λ c κs. search needs)
     (λ c κs. search needs)
-    (λ c. simp (← c .before .before .read .ensures, c .before .advance .ensures, c .with-output .ensures)))
+    (λ c. simp (← c .before .before .is-set .ensures, c .before .advance .ensures, c .with-output .ensures)))

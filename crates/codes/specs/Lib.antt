@@ -1,0 +1,4 @@
+pub mod Codes
+pub mod Words
+pub mod RoundTrip
+pub mod Figures

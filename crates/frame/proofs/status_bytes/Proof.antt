@@ -1,0 +1,25 @@
+use Rattle.frame.proofs.status_bytes.Statement.{statement}
+use Rattle.frame.proofs.status_bytes.Tie as tie
+use Rattle.codes.specs.Words.{wordBytes}
+use Rattle.frame.specs.Frame.{frameMark, statusWord}
+use Prim.Native.Nat.{_+_, _*_, _/_, _%_, _^_}
+use borrow.Author.Needs.{needs}
+use mathlib.Core.Path.{_≡_}
+use native.Mathlib.Omega.{arith}
+
+returns : tie.Need-returns
+unfolding wordBytes statusWord
+returns c =
+    let a = c .args in
+    let w = statusWord (a .p) (a .n) (a .gpio) in
+    let high : w / 2 ^ 16 % 2 ^ 8 ≡ frameMark * 2 ^ 4 + a .p / 2 ^ 4 = omega arith in
+    let middle : w / 2 ^ 8 % 2 ^ 8 ≡ a .p % 2 ^ 4 * 2 ^ 4 + a .n / 2 ^ 4 = omega arith in
+    let low : w % 2 ^ 8 ≡ a .n % 2 ^ 4 * 2 ^ 4 + a .gpio / 2 ^ 4 = omega arith in
+    simp (high, middle, low)
+
+pub status-bytes-spec : {M : Type 1} → statement M
+status-bytes-spec =
+    tie.close
+    (tie.spec
+    (λ c. search needs) (λ c. search needs) (λ c. search needs) (λ c. search needs) (λ c. search needs) (λ c. search needs)
+    returns)
