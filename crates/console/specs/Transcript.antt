@@ -18,7 +18,7 @@ inputLimit = 4096
 abbrev pub longestTranscript : ℕ
 longestTranscript = (inputLimit - 1) / numbers * longestLine
 
--- gives the lines of at most so many requests, each meeting the state that the one before nextState
+-- gives the lines of at most so many requests, each meeting the state that the one before left
 unfoldable pub lines : ℕ → Converter → ℕ → List ℕ → List ℕ
 lines zero s party bytes = []
 lines (suc most) s party bytes =
