@@ -4,8 +4,7 @@ ghost use Prim.Native.Nat.{_-_, _<_, _≤_};
 ghost use lib.ListN.{getD};
 ghost use Rattle.registers.specs.Addresses.{channelCount};
 ghost use Rattle.bits.specs.Fields.{bit};
-ghost use Rattle.codes.specs.Words.{wordBytes};
-ghost use Rattle.frame.specs.Frame.{statusWord, shown, frameWord, frameOf};
+ghost use Rattle.frame.specs.Frame.{shown, frameOf};
 ghost use Rattle.frame.specs.Reading.{isFrame, codeAt, leadOffP, leadOffN};
 
 // The bytes of a frame: a word for the status and one for each channel.
@@ -13,17 +12,6 @@ pub const LENGTH: usize = 27;
 
 // The first four bits of a frame.
 const MARK: u8 = 0b1100;
-
-// The bytes of the status word: the mark, P, N and bits 7:4 of GPIO. P and N lie each across two bytes.
-fn status_bytes(p: u8, n: u8, gpio: u8) -> [u8; 3]
-    ensures { λ r. ⌜ r ≡ wordBytes (statusWord p n gpio) ⌝ }
-{
-    [
-        MARK * 0x10 + p / 0x10,
-        p % 0x10 * 0x10 + n / 0x10,
-        n % 0x10 * 0x10 + gpio / 0x10,
-    ]
-}
 
 // What a channel shows: 0 where its power-down bit, bit 7 of CHnSET, is 1.
 fn shown(registers: [u8; registers::COUNT], codes: &[i32], channel: usize) -> i32
@@ -37,31 +25,23 @@ fn shown(registers: [u8; registers::COUNT], codes: &[i32], channel: usize) -> i3
     if k < codes.len() { codes[k] } else { 0 }
 }
 
-// The bytes of word i of a frame: the status word, then the channels'.
-fn part(registers: [u8; registers::COUNT], codes: &[i32], p: u8, n: u8, i: usize) -> [u8; 3]
-    requires { ⌜ i ≤ channelCount ⌝ }
-    ensures { λ r. ⌜ r ≡ wordBytes (frameWord registers (now (codes .entry)) p n i) ⌝ }
-{
-    if i == 0 {
-        status_bytes(p, n, registers[registers::GPIO])
-    } else {
-        codes::code_bytes(shown(registers, codes, i))
-    }
-}
-
-// The frame of a sample. A code that is not given counts as 0, and those after the eighth are not looked at.
+// The frame of a sample: the status word, in which P and N lie each across two bytes, and then the channels' words.
+// A code that is not given counts as 0, and those after the eighth are not looked at.
 pub fn build(registers: [u8; registers::COUNT], codes: &[i32], p: u8, n: u8) -> [u8; LENGTH]
     ensures { λ r. ⌜ r ≡ frameOf registers (now (codes .entry)) p n ⌝ }
 {
     let mut frame = [0u8; LENGTH];
-    let mut i: usize = 0;
-    while i <= registers::CHANNELS {
-        let bytes = part(registers, codes, p, n, i);
-        let at = 3 * i;
+    frame[0] = MARK * 0x10 + p / 0x10;
+    frame[1] = p % 0x10 * 0x10 + n / 0x10;
+    frame[2] = n % 0x10 * 0x10 + registers[registers::GPIO] / 0x10;
+    let mut channel: usize = 1;
+    while channel <= registers::CHANNELS {
+        let bytes = codes::code_bytes(shown(registers, codes, channel));
+        let at = 3 * channel;
         frame[at] = bytes[0];
         frame[at + 1] = bytes[1];
         frame[at + 2] = bytes[2];
-        i += 1;
+        channel += 1;
     }
     frame
 }
