@@ -1,4 +1,4 @@
--- The figures of document 01 about codes, in one table.
+-- Worked figures about codes, in one table: those of document 01, and the codes around zero.
 use Prim.Native.Nat.{ℕ}
 use mathlib.Core.Path.{_≡_}
 use mathlib.Core.List.{List, [], _∷_, map}

@@ -1,4 +1,4 @@
--- Figures of document 01 that the definitions are held to.
+-- Worked figures that the definitions are held to, document 01's among them.
 use mathlib.Core.Bool.{Bool, true, false, not, _&&_}
 use mathlib.Core.List.{List, [], _∷_, _++_}
 use Prim.Native.Nat.{ℕ}

@@ -1,4 +1,4 @@
--- The figures of document 01 about frames, in one table.
+-- Worked figures about a frame's first bytes, in one table: that of document 01, and one in which no two digits are alike.
 use Prim.Native.Nat.{ℕ}
 use mathlib.Core.Path.{_≡_}
 use mathlib.Core.List.{List, [], _∷_, map}

@@ -1,4 +1,4 @@
--- Registers before and after a field is set, from document 01's figures, in one table.
+-- Registers before and after a field is set, in one table, document 01's figures among them.
 use mathlib.Core.List.{List, [], _∷_, map}
 use mathlib.Core.Path.{_≡_}
 use Prim.Native.Nat.{ℕ}
