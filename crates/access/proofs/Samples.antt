@@ -24,6 +24,7 @@ use Rattle.ads1299.specs.declared.Moved.{Moved}
 use Rattle.parties.specs.Parties.{largestParty}
 use Rattle.parties.specs.Owners.{knownOwners}
 use Rattle.ads1299.specs.Validity.{valid}
+use Rattle.ads1299.specs.Output.{loaded}
 use Rattle.ads1299.specs.Sample.{complete, sampleRefusals, sampleRefusal, withStatus, framed, taken, sampled}
 use Rattle.ads1299.proofs.ValidState.{parts, whole}
 use Rattle.ads1299.proofs.StaysValid.{taken-valid}
@@ -66,11 +67,11 @@ module _ (s : Converter) (party channel : ℕ) (v : valid s ≡ true) (c : isCha
 
 module _ (s : Converter) (codes : List ℤ) (p n : ℕ) where
   taken-owners : taken s codes p n .owners ≡ s .owners
-  unfolding taken framed
+  unfolding taken framed loaded
   taken-owners = either (λ (x : Converter). x .owners ≡ s .owners) (s .continuous) (λ e. refl) (λ e. refl)
 
   taken-latest : taken s codes p n .latest ≡ frameOf (withStatus (s .registers) p n) codes p n
-  unfolding taken framed
+  unfolding taken framed loaded
   taken-latest = either (λ (x : Converter). x .latest ≡ frameOf (withStatus (s .registers) p n) codes p n) (s .continuous) (λ e. refl) (λ e. refl)
 
   taken-reads : (channel : ℕ) → ((i : ℕ) → getD (s .registers) i 0 < 256) → p < 256 → n < 256 → valid s ≡ true → complete codes ≡ true → isChannel channel ≡ true

@@ -5,12 +5,12 @@ use Rattle.commands.specs.Commands.{registerCommand, decoded, acts}
 use Rattle.protocol.specs.Transfers.{begun, remainder, countable}
 use Rattle.ads1299.specs.Registers.{powerUp, masks, registerAt, written}
 use Rattle.ads1299.specs.PowerUp.{validId, restored, poweredUp}
-use Rattle.ads1299.specs.Output.{emptied, ignored}
+use Rattle.ads1299.specs.Output.{emptied, loaded, ignored}
 use Rattle.ads1299.specs.Validity.{validConverter, valid}
 use Rattle.ads1299.specs.Step.{effect, commanded, counted, outgoing, followed, stepped}
 use Rattle.ads1299.specs.Run.{outs}
 use Rattle.ads1299.specs.Figures.{runs, RunsHold}
 
 pub runs-hold : RunsHold
-unfolding field bit masked registerCommand decoded acts begun remainder countable powerUp masks registerAt written validId restored poweredUp emptied ignored validConverter valid effect commanded counted outgoing followed stepped outs runs
+unfolding field bit masked registerCommand decoded acts begun remainder countable powerUp masks registerAt written validId restored poweredUp emptied loaded ignored validConverter valid effect commanded counted outgoing followed stepped outs runs
 runs-hold = refl

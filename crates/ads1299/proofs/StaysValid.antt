@@ -31,7 +31,7 @@ use Rattle.protocol.specs.Output.{validPlace}
 use Rattle.commands.proofs.Commands.{lowAddress, decoded-low}
 use Rattle.protocol.proofs.Transfers.{begun-valid, remainder-valid}
 use Rattle.protocol.proofs.OutputPlace.{advanced-valid}
-use Rattle.ads1299.specs.Output.{readBack, emptied, ignored}
+use Rattle.ads1299.specs.Output.{readBack, emptied, loaded, ignored}
 use Rattle.ads1299.specs.Validity.{interruptible, valid}
 use Rattle.ads1299.specs.Step.{effect, commanded, countedIn, counted, followedIn, followed, stepped}
 use Rattle.ads1299.specs.Deselect.{deselected}
@@ -51,7 +51,7 @@ module _ (s : Converter) (p : Parts s) where
 
   -- what a command that acts leaves, once the output is empty
   effect-valid : (c : Command) → s .phase ≡ Waiting → lowAddress c ≡ true → acts c (s .standby) (s .continuous) (s .converting) ≡ true → Parts (effect c (emptied s))
-  unfolding effect emptied restored powerUp acts
+  unfolding effect emptied loaded restored powerUp acts
   effect-valid Wakeup w l a = idle _ refl refl refl w
   effect-valid Standby w l a = idle _ refl refl refl w
   effect-valid Reset w l a = record { id = p .id; place = refl; phase = refl; owners = p .owners }
@@ -79,15 +79,15 @@ id-kept (x ∷ xs) (suc a) b e = either (λ (r : List ℕ). eqb (getD r 0 0 % 32
 
 module _ (s : Converter) (p : Parts s) where
   counted-valid : (d : Direction) (t : Transfer) (b : ℕ) → s .phase ≡ Counting t → Parts (countedIn d s t b)
-  counted-valid Read t b e = record { id = p .id; place = p .place; phase = remainder-valid t (interruptible s) (rw e at (p .phase)); owners = p .owners }
+  counted-valid Read t b e = record { id = p .id; place = p .place; phase = remainder-valid t (interruptible (s .continuous) (s .standby) (s .output)) (rw e at (p .phase)); owners = p .owners }
   counted-valid Write t b e =
-      record { id = id-kept (s .registers) (t .address) b (p .id); place = p .place; phase = remainder-valid t (interruptible s) (rw e at (p .phase)); owners = p .owners }
+      record { id = id-kept (s .registers) (t .address) b (p .id); place = p .place; phase = remainder-valid t (interruptible (s .continuous) (s .standby) (s .output)) (rw e at (p .phase)); owners = p .owners }
 
   followed-in : (phase : Phase) (b : ℕ) → s .phase ≡ phase → Parts (followedIn phase s b)
   unfolding counted
   followed-in Waiting b e = commanded-valid s p b e
   followed-in (Held t) b e =
-      record { id = p .id; place = p .place; phase = begun-valid t b (interruptible s) (rw e at (p .phase)); owners = p .owners }
+      record { id = p .id; place = p .place; phase = begun-valid t b (interruptible (s .continuous) (s .standby) (s .output)) (rw e at (p .phase)); owners = p .owners }
   followed-in (Counting t) b e = counted-valid (t .direction) t b e
 
   pub followed-valid : (b : ℕ) → Parts (followed s b)
@@ -106,7 +106,7 @@ id-status registers p n = rw (getD-set-other (set registers LOFF_STATP p) LOFF_S
 -- output comes with a sample in continuous mode alone, where no command stands half given
 module _ (s : Converter) (v : Parts s) where
   pub taken-valid : (codes : List ℤ) (p n : ℕ) → Parts (taken s codes p n)
-  unfolding taken framed
+  unfolding taken framed loaded
   taken-valid codes p n =
       let id : validId (getD (withStatus (s .registers) p n) ID 0) ≡ true = rw (id-status (s .registers) p n) (v .id) in
       either Parts (s .continuous)

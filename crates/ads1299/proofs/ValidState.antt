@@ -16,7 +16,7 @@ use Rattle.ads1299.specs.Validity.{interruptible, validConverter, valid}
 pub record Parts (s : Converter) : Type 0 where
   pub id : validId (getD (s .registers) ID 0) ≡ true
   pub place : validPlace (s .output) ≡ true
-  pub phase : validPhase (s .phase) (interruptible s) ≡ true
+  pub phase : validPhase (s .phase) (interruptible (s .continuous) (s .standby) (s .output)) ≡ true
   pub owners : knownOwners (s .owners) ≡ true
 
 pub parts : (s : Converter) → valid s ≡ true → Parts s
@@ -24,7 +24,7 @@ unfolding valid validConverter
 parts s e =
     let a = validId (getD (s .registers) ID 0) in
     let b = validPlace (s .output) in
-    let c = validPhase (s .phase) (interruptible s) in
+    let c = validPhase (s .phase) (interruptible (s .continuous) (s .standby) (s .output)) in
     let x = and-both (a && b && c) (knownOwners (s .owners)) e in
     let y = and-both (a && b) c (x .0) in
     let z = and-both a b (y .0) in
@@ -36,4 +36,4 @@ whole s p = rw (p .id, p .place, p .phase, p .owners)
 
 -- a state that passes 13 and counts
 pub counting-bounds : (s : Converter) (t : Transfer) → valid s ≡ true → s .phase ≡ Counting t → countable t ≡ true
-counting-bounds s t v e = and-both (interruptible s) (countable t) (rw e at (parts s v .phase)) .1
+counting-bounds s t v e = and-both (interruptible (s .continuous) (s .standby) (s .output)) (countable t) (rw e at (parts s v .phase)) .1

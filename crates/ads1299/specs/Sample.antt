@@ -12,8 +12,8 @@ use Rattle.codes.specs.Codes.{allInRange}
 use Rattle.frame.specs.Frame.{frameOf}
 use Rattle.ads1299.specs.declared.Converter.{Converter}
 use Rattle.ads1299.specs.declared.Moved.{Moved}
-use Rattle.protocol.specs.declared.Output.the-variants.{At}
-use Rattle.ads1299.specs.State.{withRegisters, withLatest, withOutput, withShifting}
+use Rattle.ads1299.specs.State.{withRegisters, withLatest}
+use Rattle.ads1299.specs.Output.{loaded}
 use Rattle.ads1299.specs.Validity.{valid}
 use Rattle.ads1299.specs.Deselect.{moved}
 
@@ -40,7 +40,7 @@ withStatus registers p n = set (set registers LOFF_STATP p) LOFF_STATN n
 
 -- gives the state with a new frame: the latest, and in continuous mode the output from its first byte
 unfoldable pub framed : Converter → List ℕ → Converter
-framed s frame = cond (s .continuous) (withShifting (withOutput (withLatest s frame) (At 0)) frame) (withLatest s frame)
+framed s frame = cond (s .continuous) (loaded (withLatest s frame)) (withLatest s frame)
 
 -- gives the state that has taken a sample
 unfoldable pub taken : Converter → List ℤ → ℕ → ℕ → Converter

@@ -9,18 +9,17 @@ use Rattle.protocol.specs.declared.Transfer.{Transfer}
 use Rattle.ads1299.specs.declared.Stepped.{Stepped}
 use Rattle.protocol.specs.declared.Direction.{Direction}
 use Rattle.protocol.specs.declared.Direction.the-variants.{Read, Write}
-use Rattle.protocol.specs.declared.Output.the-variants.{At}
 use Rattle.protocol.specs.declared.Phase.{Phase}
 use Rattle.protocol.specs.declared.Phase.the-variants.{Waiting, Held, Counting}
 use Rattle.commands.specs.declared.Command.{Command}
 use Rattle.commands.specs.declared.Command.the-variants.{Wakeup, Standby, Reset, Start, Stop, Rdatac, Sdatac, Rdata, Rreg, Wreg, Unlisted}
 use Rattle.ads1299.specs.Registers.{registerAt, written}
-use Rattle.ads1299.specs.State.{withRegisters, withOutput, withContinuous, withStandby, withConverting, withShifting, withPhase}
+use Rattle.ads1299.specs.State.{withRegisters, withContinuous, withStandby, withConverting, withPhase}
 use Rattle.ads1299.specs.PowerUp.{restored}
 use Rattle.commands.specs.Commands.{decoded, acts}
 use Rattle.protocol.specs.Transfers.{transfer, begun, remainder}
 use Rattle.protocol.specs.Output.{pending}
-use Rattle.ads1299.specs.Output.{emptied, ignored}
+use Rattle.ads1299.specs.Output.{emptied, loaded, ignored}
 use Rattle.ads1299.specs.Validity.{valid}
 
 -- gives the state after the first byte of a transfer; its number of registers is not known yet
@@ -36,7 +35,7 @@ effect Start s = withConverting s true
 effect Stop s = withConverting s false
 effect Rdatac s = withContinuous s true
 effect Sdatac s = withContinuous s false
-effect Rdata s = withShifting (withOutput s (At 0)) (s .latest)
+effect Rdata s = loaded s
 effect (Rreg a) s = held s Read a
 effect (Wreg a) s = held s Write a
 effect Unlisted s = s

@@ -4,17 +4,18 @@ use lib.ListN.{getD}
 use Rattle.registers.specs.Addresses.{ID}
 use Rattle.protocol.specs.Transfers.{validPhase}
 use Rattle.protocol.specs.Output.{isEmpty, validPlace}
+use Rattle.protocol.specs.declared.Output.{Output}
 use Rattle.ads1299.specs.declared.Converter.{Converter}
 use Rattle.parties.specs.Owners.{knownOwners}
 use Rattle.ads1299.specs.PowerUp.{validId}
 
 -- a command may stand half given: in command mode, awake, with nothing pending
-abbrev pub interruptible : Converter → Bool
-interruptible s = not (s .continuous) && not (s .standby) && isEmpty (s .output)
+abbrev pub interruptible : Bool → Bool → Output → Bool
+interruptible continuous standby output = not continuous && not standby && isEmpty output
 
 -- what refusal 13 asks of the converter itself
 unfoldable pub validConverter : Converter → Bool
-validConverter s = validId (getD (s .registers) ID 0) && validPlace (s .output) && validPhase (s .phase) (interruptible s)
+validConverter s = validId (getD (s .registers) ID 0) && validPlace (s .output) && validPhase (s .phase) (interruptible (s .continuous) (s .standby) (s .output))
 
 -- refusal 13 does not apply
 unfoldable pub valid : Converter → Bool

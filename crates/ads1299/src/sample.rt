@@ -1,21 +1,10 @@
 // Samples: what the converter makes of eight codes and the two comparator bytes.
 ghost use mathlib.Core.Path.{_≡_};
-ghost use Rattle.ads1299.specs.Sample.{running, complete, sampleRefusal, withStatus, framed, taken, sampled};
+ghost use Rattle.ads1299.specs.Sample.{complete, sampleRefusal, withStatus, taken, sampled};
 use crate::Converter;
 use crate::Moved;
-use protocol::Output;
 
 impl Converter {
-    fn is_running(self) -> bool
-        ensures { λ r. ⌜ r ≡ running self ⌝ }
-    {
-        if self.converting {
-            !self.standby
-        } else {
-            false
-        }
-    }
-
     fn is_complete(codes: &[i32]) -> bool
         ensures { λ r. ⌜ r ≡ complete (now (codes .entry)) ⌝ }
     {
@@ -30,18 +19,18 @@ impl Converter {
         ensures { λ r. ⌜ r ≡ sampleRefusal self (now (codes .entry)) ⌝ }
     {
         if self.is_valid() {
-            if self.is_running() {
-                if Self::is_complete(codes) {
-                    refusal::NONE
-                } else {
-                    refusal::BAD_SAMPLE
+            if self.converting {
+                if self.standby {
+                    return refusal::NOT_CONVERTING;
                 }
-            } else {
-                refusal::NOT_CONVERTING
+                if Self::is_complete(codes) {
+                    return refusal::NONE;
+                }
+                return refusal::BAD_SAMPLE;
             }
-        } else {
-            refusal::INVALID_STATE
+            return refusal::NOT_CONVERTING;
         }
+        refusal::INVALID_STATE
     }
 
     fn with_status(registers: [u8; registers::COUNT], p: u8, n: u8) -> [u8; registers::COUNT]
@@ -53,32 +42,18 @@ impl Converter {
         next
     }
 
-    fn with_frame(self, frame: [u8; frame::LENGTH]) -> Converter
-        ensures { λ r. ⌜ r ≡ framed self frame ⌝ }
-    {
-        if self.continuous {
-            Converter {
-                latest: frame,
-                output: Output::At(0),
-                shifting: frame,
-                ..self
-            }
-        } else {
-            Converter {
-                latest: frame,
-                ..self
-            }
-        }
-    }
-
     fn take(self, codes: &[i32], p: u8, n: u8) -> Converter
         ensures { λ r. ⌜ r ≡ taken self (now (codes .entry)) p n ⌝ }
     {
         let before = self.registers;
         let registers = Self::with_status(before, p, n);
-        let frame = frame::build(registers, codes, p, n);
-        let next = Converter { registers, ..self };
-        next.with_frame(frame)
+        let latest = frame::build(registers, codes, p, n);
+        let next = Converter {
+            registers,
+            latest,
+            ..self
+        };
+        if next.continuous { next.load() } else { next }
     }
 
     // Takes a sample: the codes of channels 1 to 8, and the comparator bytes P and N.

@@ -4,7 +4,7 @@ ghost use mathlib.Core.Bool.{true};
 ghost use Rattle.protocol.specs.Transfers.{countable, remainder};
 ghost use Rattle.ads1299.specs.Registers.{registerAt, written};
 ghost use Rattle.ads1299.specs.State.{withOutput, withPhase, withStandby, withConverting, withContinuous};
-ghost use Rattle.ads1299.specs.Output.{emptied, ignored};
+ghost use Rattle.ads1299.specs.Output.{loaded, ignored};
 ghost use Rattle.ads1299.specs.Validity.{valid};
 ghost use Rattle.ads1299.specs.Step.{held, effect, commanded, counted, outgoing, followed, stepped};
 ghost use Rattle.ads1299.specs.Deselect.{deselected};
@@ -53,12 +53,6 @@ impl Converter {
         ensures { λ r. ⌜ r ≡ withPhase self phase ⌝ }
     {
         Converter { phase, ..self }
-    }
-
-    fn empty(self) -> Converter
-        ensures { λ r. ⌜ r ≡ emptied self ⌝ }
-    {
-        self.with_output(Output::Empty)
     }
 
     // An ignored byte lets the output run on.
@@ -110,8 +104,9 @@ impl Converter {
         Self::restore(registers[registers::ID], owners)
     }
 
-    fn load(self) -> Converter
-        ensures { λ r. ⌜ r ≡ effect Command.Rdata self ⌝ }
+    // The latest frame goes out, from its first byte.
+    pub(crate) fn load(self) -> Converter
+        ensures { λ r. ⌜ r ≡ loaded self ⌝ }
     {
         let shifting = self.latest;
         Converter {
@@ -144,7 +139,7 @@ impl Converter {
         ensures { λ r. ⌜ r ≡ commanded self command ⌝ }
     {
         if commands::does_act(command, self.standby, self.continuous, self.converting) {
-            self.empty().perform(command)
+            self.with_output(Output::Empty).perform(command)
         } else {
             self.ignore()
         }
@@ -170,15 +165,17 @@ impl Converter {
         requires { ⌜ countable transfer ≡ true ⌝ }
         ensures { λ r. ⌜ r ≡ counted self transfer byte ⌝ }
     {
+        let before = self.registers;
         let direction = transfer.direction;
-        let next = self.with_phase(Self::remain(transfer));
-        match direction {
-            Direction::Read => next,
-            Direction::Write => {
-                let before = self.registers;
-                let registers = Self::write(before, transfer.address, byte);
-                Converter { registers, ..next }
-            }
+        let registers = match direction {
+            Direction::Read => before,
+            Direction::Write => Self::write(before, transfer.address, byte),
+        };
+        let phase = Self::remain(transfer);
+        Converter {
+            registers,
+            phase,
+            ..self
         }
     }
 
@@ -241,7 +238,7 @@ impl Converter {
         ensures { λ r. ⌜ r ≡ deselected self ⌝ }
     {
         if self.is_valid() {
-            let next = self.empty().with_phase(Phase::Waiting);
+            let next = self.with_output(Output::Empty).with_phase(Phase::Waiting);
             Moved {
                 refusal: refusal::NONE,
                 next,

@@ -6,16 +6,15 @@ use protocol::Output;
 
 impl Converter {
     // Whether a command may stand half given: in command mode, awake, with nothing pending.
-    fn is_interruptible(self) -> bool
-        ensures { λ r. ⌜ r ≡ interruptible self ⌝ }
+    fn is_interruptible(continuous: bool, standby: bool, output: Output) -> bool
+        ensures { λ r. ⌜ r ≡ interruptible continuous standby output ⌝ }
     {
-        if self.continuous {
+        if continuous {
             return false;
         }
-        if self.standby {
+        if standby {
             return false;
         }
-        let output = self.output;
         match output {
             Output::Empty => true,
             Output::At(_) => false,
@@ -32,7 +31,8 @@ impl Converter {
         let phase = self.phase;
         if Self::is_valid_id(registers[registers::ID]) {
             if protocol::is_valid_place(output) {
-                if protocol::is_valid_phase(phase, self.is_interruptible()) {
+                let interruptible = Self::is_interruptible(self.continuous, self.standby, output);
+                if protocol::is_valid_phase(phase, interruptible) {
                     return parties::are_known(owners);
                 }
             }

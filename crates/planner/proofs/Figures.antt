@@ -8,7 +8,7 @@ use Rattle.commands.specs.Commands.{registerCommand, decoded, acts}
 use Rattle.protocol.specs.Transfers.{begun, remainder, countable}
 use Rattle.ads1299.specs.Registers.{powerUp, masks, registerAt, written}
 use Rattle.ads1299.specs.PowerUp.{validId, restored, poweredUp}
-use Rattle.ads1299.specs.Output.{emptied, ignored}
+use Rattle.ads1299.specs.Output.{emptied, loaded, ignored}
 use Rattle.ads1299.specs.Validity.{validConverter, valid}
 use Rattle.ads1299.specs.Step.{effect, commanded, counted, outgoing, followed, stepped}
 use Rattle.ads1299.specs.Run.{after, outs}
@@ -25,5 +25,5 @@ use Rattle.planner.specs.Planned.{refusalOf, plan, planned}
 use Rattle.planner.specs.Figures.{FiguresHold}
 
 pub figures-hold : FiguresHold
-unfolding field bit inserted masked wordOf codeOf word wordBytes wordAt joined statusWord poweredDown shown frameWord frameOf registerCommand decoded acts begun remainder countable powerUp masks registerAt written validId restored poweredUp emptied ignored validConverter valid effect commanded counted outgoing followed stepped after outs knownParty ownerOf table rowOf named place fits legal settable fieldByte judged planOf refusalOf plan planned
+unfolding field bit inserted masked wordOf codeOf word wordBytes wordAt joined statusWord poweredDown shown frameWord frameOf registerCommand decoded acts begun remainder countable powerUp masks registerAt written validId restored poweredUp emptied loaded ignored validConverter valid effect commanded counted outgoing followed stepped after outs knownParty ownerOf table rowOf named place fits legal settable fieldByte judged planOf refusalOf plan planned
 figures-hold = refl

@@ -1,3 +1,4 @@
+use mathlib.Core.Logic.{⊎-elim}
 use Rattle.ads1299.proofs.Converter.count.Statement.{statement}
 use Rattle.ads1299.proofs.Converter.count.Tie as tie
 use Rattle.ads1299.specs.Step.{counted}
@@ -8,10 +9,11 @@ unfolding counted
 count-spec =
     tie.close
     (tie.spec
-    (λ c κs. search needs)
-    (λ c κs. search needs)
     (λ c. search needs)
     (λ c. search needs)
     (λ c κs. search needs)
-    (λ c. simp (← c .before .before .before .remain .ensures, c .before .before .with-phase .ensures, c .enum-told .given .1))
-    (λ c. simp (← c .before .before .before .before .before .before .before .before .remain .ensures, c .before .before .before .before .before .before .before .with-phase .ensures, c .before .before .before .before .before .enum-told2 .given .1, ← c .before .before .before .write .ensures)))
+    (λ c κs. search needs)
+    (λ c. ⊎-elim
+    (λ w. simp (← c .before .before .before .remain .ensures, w .1 .given .1, w .2))
+    (λ w. simp (← c .before .before .before .remain .ensures, w .1 .given .1, ← w .2 .ensures, w .3))
+    (c .before .before .before .before .match .came)))

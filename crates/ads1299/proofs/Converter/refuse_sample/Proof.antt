@@ -9,9 +9,9 @@ refuse-sample-spec =
     tie.close
     (tie.spec
     (λ c κs. search needs)
+    (λ c. simp (← c .before .before .before .is-valid .ensures, c .before .before .if1 .taken, c .before .if2 .taken, c .if3 .taken))
     (λ c κs. search needs)
-    (λ c κs. search needs)
-    (λ c. simp (← c .before .before .before .before .before .is-valid .ensures, c .before .before .before .before .if1 .taken, ← c .before .before .before .is-running .ensures, c .before .before .if2 .taken, ← c .before .is-complete .ensures, c .if3 .taken))
-    (λ c. simp (← c .before .before .before .before .before .is-valid .ensures, c .before .before .before .before .if1 .taken, ← c .before .before .before .is-running .ensures, c .before .before .if2 .taken, ← c .before .is-complete .ensures, c .if3 .left))
-    (λ c. simp (← c .before .before .before .is-valid .ensures, c .before .before .if1 .taken, ← c .before .is-running .ensures, c .if2 .left))
+    (λ c. simp (← c .before .before .before .before .before .is-valid .ensures, c .before .before .before .before .if1 .taken, c .before .before .before .if2 .taken, c .before .before .if3 .left, ← c .before .is-complete .ensures, c .if4 .taken))
+    (λ c. simp (← c .before .before .before .before .before .is-valid .ensures, c .before .before .before .before .if1 .taken, c .before .before .before .if2 .taken, c .before .before .if3 .left, ← c .before .is-complete .ensures, c .if4 .left))
+    (λ c. simp (← c .before .before .is-valid .ensures, c .before .if1 .taken, c .if2 .left))
     (λ c. simp (← c .before .is-valid .ensures, c .if1 .left)))
