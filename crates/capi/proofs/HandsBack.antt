@@ -12,7 +12,7 @@ use Rattle.ads1299.specs.Validity.{valid}
 use Rattle.ads1299.specs.Step.{stepped}
 use Rattle.ads1299.specs.Deselect.{deselected}
 use Rattle.ads1299.specs.Sample.{sampleRefusal, sampled}
-use Rattle.access.specs.Grant.{grantRefusal, granted}
+use Rattle.grants.specs.Grant.{grantRefusal, granted}
 use Rattle.planner.specs.Submission.{Submission}
 use Rattle.planner.specs.Planned.{refusalOf, planned}
 use Rattle.flat.specs.declared.FlatConverter.{FlatConverter}

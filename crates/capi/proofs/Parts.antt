@@ -7,8 +7,8 @@ use lib.ListN.{length}
 use Rattle.refusal.specs.Numbers.{none}
 use Rattle.refusal.specs.First.{accepted}
 use Rattle.ads1299.specs.declared.Converter.{Converter}
-use Rattle.access.specs.Reading.{channelReading, partBytes, partPlace}
-use Rattle.access.proofs.Refusals.{reading-number}
+use Rattle.readings.specs.Reading.{channelReading, partBytes, partPlace}
+use Rattle.readings.proofs.Refusals.{reading-number}
 use Rattle.capi.specs.Answers.{channelPart, noPart}
 
 pub part-taken : (s : Converter) (party channel : ℕ) (frame : List ℕ) → channelReading s party channel frame .refusal ≡ none

@@ -12,8 +12,8 @@ use Rattle.ads1299.specs.declared.Converter.{Converter}
 use Rattle.ads1299.specs.declared.PoweredUp.{PoweredUp}
 use Rattle.ads1299.specs.declared.Stepped.{Stepped}
 use Rattle.ads1299.specs.declared.Moved.{Moved}
-use Rattle.access.specs.declared.Reading.{Reading}
-use Rattle.access.specs.Reading.{channelReading, partBytes, partPlace}
+use Rattle.readings.specs.declared.Reading.{Reading}
+use Rattle.readings.specs.Reading.{channelReading, partBytes, partPlace}
 use Rattle.planner.specs.declared.Planned.{Planned}
 use Rattle.flat.specs.declared.FlatConverter.{FlatConverter}
 use Rattle.capi.specs.declared.FlatPoweredUp.{FlatPoweredUp}

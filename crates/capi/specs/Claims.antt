@@ -8,7 +8,7 @@ use Rattle.refusal.specs.First.{accepted}
 use Rattle.ads1299.specs.Step.{stepped}
 use Rattle.ads1299.specs.Deselect.{deselected}
 use Rattle.ads1299.specs.Sample.{sampled}
-use Rattle.access.specs.Grant.{granted}
+use Rattle.grants.specs.Grant.{granted}
 use Rattle.planner.specs.Submission.{Submission}
 use Rattle.planner.specs.Planned.{planned}
 use Rattle.flat.specs.declared.FlatConverter.{FlatConverter}

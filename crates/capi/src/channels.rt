@@ -1,7 +1,7 @@
 // Grants and readings.
 ghost use mathlib.Core.Path.{_≡_};
-ghost use Rattle.access.specs.Grant.{granted};
-ghost use Rattle.access.specs.Reading.{channelReading};
+ghost use Rattle.grants.specs.Grant.{granted};
+ghost use Rattle.readings.specs.Reading.{channelReading};
 ghost use Rattle.flat.specs.States.{stateOf};
 ghost use Rattle.capi.specs.Answers.{movedFrom, readingFrom, channelPart, noPart, partFrom};
 use super::answers;
@@ -22,7 +22,7 @@ pub extern "C" fn rimevelvet_grant(
 {
     if flat::is_state(state) {
         let before = flat::state_of(state);
-        let granted = access::grant(before, caller, receiver, channel);
+        let granted = grants::grant(before, caller, receiver, channel);
         FlatMoved {
             refusal: granted.refusal,
             next: flat::flatten(granted.next),
@@ -42,7 +42,7 @@ pub extern "C" fn rimevelvet_read_channel(
     ensures { λ r. ⌜ r ≡ readingFrom state (channelReading (stateOf state) party channel (now (frame .entry))) ⌝ }
 {
     if flat::is_state(state) {
-        let reading = access::read_channel(flat::state_of(state), party, channel, frame);
+        let reading = readings::read_channel(flat::state_of(state), party, channel, frame);
         FlatReading {
             refusal: reading.refusal,
             p: flat::flag_code(reading.p),
@@ -69,16 +69,16 @@ fn refuse_part(number: u8) -> FlatPart
     }
 }
 
-// Where the part that access::channel_bytes hands back lies in the frame.
+// Where the part that readings::channel_bytes hands back lies in the frame.
 fn locate_part(converter: Converter, party: u32, channel: u32, frame: &[u8]) -> FlatPart
     ensures { λ r. ⌜ r ≡ channelPart converter party channel (now (frame .entry)) ⌝ }
 {
-    let reading = access::read_channel(converter, party, channel, frame);
+    let reading = readings::read_channel(converter, party, channel, frame);
     if reading.refusal == refusal::NONE {
         FlatPart {
             refusal: refusal::NONE,
             start: 3 * channel as usize,
-            length: access::channel_bytes(converter, party, channel, frame).len(),
+            length: readings::channel_bytes(converter, party, channel, frame).len(),
         }
     } else {
         refuse_part(reading.refusal)

@@ -17,8 +17,8 @@ use Rattle.ads1299.specs.Validity.{valid}
 use Rattle.ads1299.specs.Step.{stepped}
 use Rattle.ads1299.specs.Deselect.{deselected}
 use Rattle.ads1299.specs.Sample.{sampleRefusals, sampleRefusal, sampled}
-use Rattle.access.specs.Grant.{grantRefusals, grantRefusal, granted}
-use Rattle.access.specs.Reading.{readingRefusals, readingRefusal, channelReading, partBytes}
+use Rattle.grants.specs.Grant.{grantRefusals, grantRefusal, granted}
+use Rattle.readings.specs.Reading.{readingRefusals, readingRefusal, channelReading, partBytes}
 use Rattle.settings.specs.Registers.{fieldOf}
 use Rattle.planner.specs.Refusals.{refusals, judged}
 use Rattle.planner.specs.Planned.{planned}

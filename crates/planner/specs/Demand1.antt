@@ -25,9 +25,9 @@ use Rattle.ads1299.specs.Validity.{valid}
 use Rattle.ads1299.specs.Step.{stepped}
 use Rattle.ads1299.specs.Deselect.{moved, deselected}
 use Rattle.ads1299.specs.Sample.{sampleRefusals, sampled}
-use Rattle.access.specs.declared.Reading.{Reading}
-use Rattle.access.specs.Grant.{grantRefusals, granted}
-use Rattle.access.specs.Reading.{readingRefusals, reading, channelReading, partBytes}
+use Rattle.readings.specs.declared.Reading.{Reading}
+use Rattle.grants.specs.Grant.{grantRefusals, granted}
+use Rattle.readings.specs.Reading.{readingRefusals, reading, channelReading, partBytes}
 use Rattle.settings.specs.Registers.{fieldOf}
 use Rattle.planner.specs.declared.Planned.{Planned}
 use Rattle.planner.specs.Submission.{Submission}

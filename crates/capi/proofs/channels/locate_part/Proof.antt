@@ -1,7 +1,7 @@
 use Rattle.capi.proofs.Parts.{part-taken, part-refused}
 use Rattle.capi.proofs.channels.locate_part.Statement.{statement}
 use Rattle.capi.proofs.channels.locate_part.Tie as tie
-use Rattle.access.specs.declared.Reading.{Reading}
+use Rattle.readings.specs.declared.Reading.{Reading}
 use borrow.Author.Needs.{needs}
 use borrow.Author.Tests.{ne-eqb}
 use mathlib.Core.Path.{sym, ap, _∙_}

@@ -1,6 +1,0 @@
-pub mod Accepted
-pub mod Refusals
-pub mod EqualReadings
-pub mod OneOwner
-pub mod Samples
-pub mod Figures

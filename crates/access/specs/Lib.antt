@@ -1,4 +1,0 @@
-pub mod Grant
-pub mod Reading
-pub mod Claims
-pub mod Figures

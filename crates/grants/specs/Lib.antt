@@ -1,0 +1,3 @@
+pub mod Grant
+pub mod Claims
+pub mod Figures

@@ -1,0 +1,95 @@
+-- A channel's owner reads what was sampled. Assumes nothing.
+use Prim.Native.Nat.{ℕ, zero, suc, _+_, _-_, _<_}
+use mathlib.Core.Path.{_≡_, refl, sym, _∙_, ap}
+use mathlib.Core.Bool.{true}
+use mathlib.Core.List.{List, [], _∷_}
+use native.Mathlib.Omega.{arith}
+use borrow.Author.Tests.{eqb-true, eqb-false, eq-eqb, not-false}
+use lib.Dec.{leb, eqb}
+use lib.IntN.{ℤ}
+use lib.ListN.{length, getD, set}
+use lib.Seq.{getD-set-other}
+use Rattle.cases.proofs.Cases.{either, and-both}
+use Rattle.refusal.specs.Numbers.{none}
+use Rattle.refusal.specs.First.{accepted}
+use Rattle.refusal.proofs.First.{exact}
+use Rattle.registers.specs.Addresses.{channelCount, CH1SET, GPIO, LOFF_STATP, LOFF_STATN}
+use Rattle.codes.specs.Codes.{allInRange}
+use Rattle.frame.specs.Frame.{poweredDown, shown, frameOf}
+use Rattle.frame.specs.Reading.{isFrame}
+use Rattle.frame.specs.RoundTrip.{ReadsBack}
+use Rattle.frame.proofs.RoundTrip.{frames-read-back}
+use Rattle.ads1299.specs.declared.Converter.{Converter}
+use Rattle.ads1299.specs.declared.Moved.{Moved}
+use Rattle.parties.specs.Parties.{largestParty}
+use Rattle.parties.specs.Owners.{knownOwners}
+use Rattle.ads1299.specs.Validity.{valid}
+use Rattle.ads1299.specs.Output.{loaded}
+use Rattle.ads1299.specs.Sample.{complete, sampleRefusals, sampleRefusal, withStatus, framed, taken, sampled}
+use Rattle.ads1299.proofs.ValidState.{parts, whole}
+use Rattle.ads1299.proofs.StaysValid.{taken-valid}
+use Rattle.parties.specs.Parties.{knownParty}
+use Rattle.parties.specs.Owners.{ownerOf, owns}
+use Rattle.parties.specs.Channels.{isChannel}
+use Rattle.readings.specs.Reading.{readingRefusal, channelReading, partBytes}
+use Rattle.readings.specs.Claims.{ReadsSample, SamplesReadBack}
+use Rattle.parties.proofs.Bounds.{bounds}
+use Rattle.parties.proofs.Owners.{known-at}
+
+-- P and N go to their two registers and to no other
+status-other : (registers : List ℕ) (p n i : ℕ) → (i ≡ LOFF_STATP → ⊥) → (i ≡ LOFF_STATN → ⊥) → getD (withStatus registers p n) i 0 ≡ getD registers i 0
+unfolding withStatus
+status-other registers p n i a b = getD-set-other (set registers LOFF_STATP p) LOFF_STATN i n 0 b ∙ getD-set-other registers LOFF_STATP i p 0 a
+
+status-shown : (registers : List ℕ) (codes : List ℤ) (p n channel : ℕ) → isChannel channel ≡ true → shown (withStatus registers p n) codes channel ≡ shown registers codes channel
+unfolding shown poweredDown
+status-shown registers codes p n channel c =
+    let b = bounds channel c in
+    rw (status-other registers p n (CH1SET + (channel - 1)) (λ z. omega arith) (λ z. omega arith))
+
+-- the owner of a channel reads what a frame says of it
+module _ (s : Converter) (party channel : ℕ) (v : valid s ≡ true) (c : isChannel channel ≡ true) (o : ownerOf (s .owners) channel ≡ party) where
+  owner-accepted : (frame : List ℕ) → isFrame frame ≡ true → readingRefusal s party channel frame ≡ none
+  unfolding readingRefusal knownParty ownerOf owns
+  owner-accepted frame f =
+      let k : leb party largestParty ≡ true = rw o at (known-at (s .owners) (channel - 1) (parts s v .owners)) in
+      simp (v, k, c, eq-eqb _ _ (sym o), f)
+
+  owner-reads : (registers : List ℕ) (codes : List ℤ) (p n : ℕ) → ReadsBack registers codes p n (s .latest) → ReadsSample registers codes p n party channel s
+  unfolding channelReading partBytes
+  owner-reads registers codes p n r =
+      let b = bounds channel c in
+      let ok = owner-accepted (s .latest) (r .framed) in
+      record {
+        read = simp (ok, r .coded channel (b .low) (b .high), r .p-bit channel, r .n-bit channel);
+        part = simp (ok, r .parted channel (b .low) (b .high));
+      }
+
+module _ (s : Converter) (codes : List ℤ) (p n : ℕ) where
+  taken-owners : taken s codes p n .owners ≡ s .owners
+  unfolding taken framed loaded
+  taken-owners = either (λ (x : Converter). x .owners ≡ s .owners) (s .continuous) (λ e. refl) (λ e. refl)
+
+  taken-latest : taken s codes p n .latest ≡ frameOf (withStatus (s .registers) p n) codes p n
+  unfolding taken framed loaded
+  taken-latest = either (λ (x : Converter). x .latest ≡ frameOf (withStatus (s .registers) p n) codes p n) (s .continuous) (λ e. refl) (λ e. refl)
+
+  taken-reads : (channel : ℕ) → ((i : ℕ) → getD (s .registers) i 0 < 256) → p < 256 → n < 256 → valid s ≡ true → complete codes ≡ true → isChannel channel ≡ true
+      → ReadsSample (s .registers) codes p n (ownerOf (s .owners) channel) channel (taken s codes p n)
+  unfolding complete
+  taken-reads channel r ps ns v all c =
+      let registers = withStatus (s .registers) p n in
+      let gpio : getD registers GPIO 0 < 256 = rw (status-other (s .registers) p n GPIO (λ z. omega arith) (λ z. omega arith)) (r GPIO) in
+      let range = and-both (eqb (length codes) channelCount) (allInRange codes) all .1 in
+      let back : ReadsBack registers codes p n (taken s codes p n .latest) = rw taken-latest (frames-read-back registers codes p n gpio range ps ns) in
+      let read = owner-reads (taken s codes p n) (ownerOf (s .owners) channel) channel (whole _ (taken-valid s (parts s v) codes p n)) c (ap (λ (x : List ℕ). ownerOf x channel) taken-owners) registers codes p n back in
+      let same = status-shown (s .registers) codes p n channel c in
+      record { read = read .read ∙ rw same; part = read .part ∙ rw same }
+
+pub samples-read-back : SamplesReadBack
+unfolding sampleRefusal sampled
+samples-read-back s codes p n channel r ps ns e c =
+    let P : Moved → Type 0 = λ m. m .refusal ≡ none → ReadsSample (s .registers) codes p n (ownerOf (s .owners) channel) channel (m .next) in
+    either P (accepted (sampleRefusal s codes))
+    (λ a z. let off = exact (sampleRefusals s codes) refl .refuses (eqb-true _ _ a) in taken-reads s codes p n channel r ps ns (not-false _ (off .0)) (not-false _ (off .1 .1 .0)) c)
+    (λ a z. absurd (eqb-false _ _ a z)) e

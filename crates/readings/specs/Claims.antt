@@ -1,0 +1,57 @@
+-- What is claimed of readings beyond the functions' contracts.
+use Prim.Native.Nat.{ℕ, _-_, _<_}
+use mathlib.Core.Path.{_≡_}
+use mathlib.Core.Bool.{true, cond}
+use mathlib.Core.List.{List}
+use lib.IntN.{ℤ}
+use lib.ListN.{length, getD}
+use Rattle.refusal.specs.Numbers.{none}
+use Rattle.refusal.specs.First.{accepted}
+use Rattle.bits.specs.Fields.{bit}
+use Rattle.codes.specs.Codes.{wordOf}
+use Rattle.codes.specs.Words.{wordBytes}
+use Rattle.frame.specs.Frame.{shown}
+use Rattle.frame.specs.Reading.{leadingBits, channelBytes, leadOffP, leadOffN}
+use Rattle.ads1299.specs.declared.Converter.{Converter}
+use Rattle.ads1299.specs.Validity.{valid}
+use Rattle.ads1299.specs.Sample.{sampled}
+use Rattle.parties.specs.Owners.{ownerOf}
+use Rattle.parties.specs.Channels.{isChannel}
+use Rattle.readings.specs.Reading.{reading, channelReading, partBytes, partPlace}
+
+-- two states pass 13 with the same owners, and two lists of bytes agree in length, in the first four bits, in a channel's bytes and in its two lead-off bits
+pub record Alike (s t : Converter) (channel : ℕ) (first second : List ℕ) : Type 0 where
+  pub s-valid : valid s ≡ true
+  pub t-valid : valid t ≡ true
+  pub owners : s .owners ≡ t .owners
+  pub lengths : length first ≡ length second
+  pub marks : leadingBits first ≡ leadingBits second
+  pub bytes : channelBytes first channel ≡ channelBytes second channel
+  pub p-bits : leadOffP first channel ≡ leadOffP second channel
+  pub n-bits : leadOffN first channel ≡ leadOffN second channel
+
+-- Whatever else the states and the bytes hold, a party's readings of a channel are equal, and so are the parts: nothing of another channel shows, refused or not.
+pub record EqualReadings (s t : Converter) (party channel : ℕ) (first second : List ℕ) : Type 0 where
+  pub readings : Alike s t channel first second → channelReading s party channel first ≡ channelReading t party channel second
+  pub parts : Alike s t channel first second → partBytes s party channel first ≡ partBytes t party channel second
+  pub places : Alike s t channel first second → partPlace s party channel first ≡ partPlace t party channel second
+
+-- The second call gives three bytes exactly when the first one accepts, else none.
+abbrev pub ThreeOrNone : Type 0
+ThreeOrNone =
+    (s : Converter) (party channel : ℕ) (frame : List ℕ)
+    → length (partBytes s party channel frame) ≡ cond (accepted (channelReading s party channel frame .refusal)) 3 0
+
+-- a party reads from the latest frame what was sampled: the channel's code, or 0 where it is powered down, and its bits of P and N
+pub record ReadsSample (registers : List ℕ) (codes : List ℤ) (p n party channel : ℕ) (next : Converter) : Type 0 where
+  pub read : channelReading next party channel (next .latest)
+      ≡ reading none (shown registers codes channel) (bit p (channel - 1)) (bit n (channel - 1))
+  pub part : partBytes next party channel (next .latest) ≡ wordBytes (wordOf (shown registers codes channel))
+
+-- After every sample that is taken, each channel's owner reads what was sampled.
+abbrev pub SamplesReadBack : Type 0
+SamplesReadBack =
+    (s : Converter) (codes : List ℤ) (p n channel : ℕ)
+    → ((i : ℕ) → getD (s .registers) i 0 < 256) → p < 256 → n < 256
+    → sampled s codes p n .refusal ≡ none → isChannel channel ≡ true
+    → ReadsSample (s .registers) codes p n (ownerOf (s .owners) channel) channel (sampled s codes p n .next)
