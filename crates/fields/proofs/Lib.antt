@@ -1,5 +1,1 @@
-pub mod Names
-pub mod Rows
-pub mod Apart
-pub mod Masks
 pub mod Figures

@@ -2,8 +2,8 @@
 use mathlib.Core.Bool.{Bool, not, _&&_}
 use Prim.Native.Nat.{ℕ, _^_}
 use lib.Dec.{ltb, eqb}
-use Rattle.fields.specs.Table.{rowOf}
-use Rattle.fields.specs.Names.{isField, named}
+use Rattle.regmap.specs.Table.{rowOf}
+use Rattle.regmap.specs.Names.{isField, named}
 
 -- the value fits the field's width
 unfoldable pub fits : ℕ → ℕ → Bool

@@ -9,10 +9,10 @@ use Rattle.refusal.specs.First.{accepted}
 use Rattle.ads1299.specs.declared.Converter.{Converter}
 use Rattle.ads1299.specs.State.{withRegisters, withOutput}
 use Rattle.ads1299.specs.Formed.{Formed}
-use Rattle.fields.specs.Names.{named}
-use Rattle.fields.specs.Places.{bitAt}
+use Rattle.regmap.specs.Names.{named}
+use Rattle.regmap.specs.Places.{bitAt}
 use Rattle.settings.specs.Registers.{readAt, fieldOf}
-use Rattle.fields.specs.Layout.{Free}
+use Rattle.regmap.specs.Layout.{Free}
 use Rattle.settings.proofs.Registers.{written}
 use Rattle.planner.specs.Submission.{Submission}
 use Rattle.planner.specs.Refusals.{Values, fieldOwner, judged}

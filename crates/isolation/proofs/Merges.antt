@@ -9,7 +9,7 @@ use Rattle.cases.proofs.Cases.{split}
 use Rattle.refusal.specs.First.{accepted}
 use Rattle.ads1299.specs.declared.Converter.{Converter}
 use Rattle.ads1299.specs.Formed.{Formed}
-use Rattle.fields.specs.Names.{named}
+use Rattle.regmap.specs.Names.{named}
 use Rattle.settings.specs.Registers.{fieldOf}
 use Rattle.settings.proofs.Registers.{same-registers}
 use Rattle.planner.specs.Submission.{Submission}

@@ -11,11 +11,11 @@ use Rattle.bits.specs.Fields.{field}
 use Rattle.refusal.specs.First.{accepted}
 use Rattle.refusal.proofs.First.{exact}
 use Rattle.ads1299.specs.declared.Converter.{Converter}
-use Rattle.fields.specs.Names.{named}
-use Rattle.fields.specs.Places.{place, apart, bitAt}
+use Rattle.regmap.specs.Names.{named}
+use Rattle.regmap.specs.Places.{place, apart, bitAt}
 use Rattle.settings.specs.Registers.{readAt, fieldOf}
-use Rattle.fields.specs.Layout.{Free, InField}
-use Rattle.fields.proofs.Apart.{free-or-in}
+use Rattle.regmap.specs.Layout.{Free, InField}
+use Rattle.regmap.proofs.Apart.{free-or-in}
 use Rattle.settings.proofs.Registers.{bit-of}
 use Rattle.planner.specs.Submission.{Submission}
 use Rattle.planner.specs.Refusals.{Values, fieldOwner, refusals, judged}

@@ -12,12 +12,12 @@ use Rattle.bits.specs.Fields.{field}
 use Rattle.bits.proofs.Fields.{same-bits}
 use Rattle.refusal.specs.First.{accepted}
 use Rattle.ads1299.specs.declared.Converter.{Converter}
-use Rattle.fields.specs.Table.{table, rowOf}
-use Rattle.fields.specs.Names.{channelField, named, everyName}
-use Rattle.fields.specs.Places.{place, bitAt}
+use Rattle.regmap.specs.Table.{table, rowOf}
+use Rattle.regmap.specs.Names.{channelField, named, everyName}
+use Rattle.regmap.specs.Places.{place, bitAt}
 use Rattle.settings.specs.Registers.{readAt, fieldByte}
-use Rattle.fields.proofs.Names.{every-at}
-use Rattle.fields.proofs.Apart.{place-inside, has}
+use Rattle.regmap.proofs.Names.{every-at}
+use Rattle.regmap.proofs.Apart.{place-inside, has}
 use Rattle.settings.proofs.Registers.{written}
 use Rattle.planner.specs.Submission.{Submission}
 use Rattle.planner.specs.Refusals.{Values, fieldOwner, judged}

@@ -5,7 +5,7 @@ use mathlib.Core.List.{List, [], _∷_}
 use Rattle.refusal.specs.First.{accepted}
 use Rattle.ads1299.specs.declared.Converter.{Converter}
 use Rattle.settings.specs.Registers.{fieldOf}
-use Rattle.fields.specs.Layout.{same}
+use Rattle.regmap.specs.Layout.{same}
 use Rattle.planner.specs.Submission.{Submission}
 use Rattle.planner.specs.Refusals.{Values, judged}
 

@@ -19,11 +19,11 @@ use Rattle.ads1299.specs.Formed.{Formed}
 use Rattle.ads1299.specs.Validity.{valid}
 use Rattle.ads1299.proofs.ValidState.{parts, whole}
 use Rattle.parties.specs.Parties.{knownParty}
-use Rattle.fields.specs.Names.{isField, takesChannel, named}
-use Rattle.fields.specs.Places.{place}
+use Rattle.regmap.specs.Names.{isField, takesChannel, named}
+use Rattle.regmap.specs.Places.{place}
 use Rattle.fields.specs.Values.{legal, settable}
 use Rattle.settings.specs.Registers.{withField, fieldByte}
-use Rattle.fields.proofs.Apart.{place-inside}
+use Rattle.regmap.proofs.Apart.{place-inside}
 use Rattle.settings.proofs.Registers.{legal-settable, written}
 use Rattle.planner.specs.Submission.{Submission}
 use Rattle.planner.specs.Plan.{planLength}

@@ -14,10 +14,10 @@ use Rattle.registers.specs.Addresses.{registerCount}
 use Rattle.protocol.specs.declared.Output.the-variants.{Empty}
 use Rattle.ads1299.specs.declared.Converter.{Converter}
 use Rattle.ads1299.specs.State.{withRegisters, withOutput}
-use Rattle.fields.specs.declared.Place.{Place}
-use Rattle.fields.specs.Places.{place}
+use Rattle.regmap.specs.declared.Place.{Place}
+use Rattle.regmap.specs.Places.{place}
 use Rattle.settings.specs.Registers.{withField, fieldByte}
-use Rattle.fields.proofs.Apart.{place-inside}
+use Rattle.regmap.proofs.Apart.{place-inside}
 use Rattle.planner.specs.declared.Planned.{Planned}
 use Rattle.planner.specs.Submission.{Submission, roomAt}
 use Rattle.planner.specs.Plan.{planOf, planLength}

@@ -36,15 +36,15 @@ use Rattle.ads1299.specs.Step.{effect, commanded, counted, followed, stepped}
 use Rattle.ads1299.specs.Run.{after, runRefusals}
 use Rattle.ads1299.proofs.ValidState.{parts, whole}
 use Rattle.ads1299.proofs.StaysValid.{next-is, stays-valid}
-use Rattle.fields.specs.Table.{table, rowOf}
-use Rattle.fields.specs.Names.{named, everyName}
-use Rattle.fields.specs.Places.{place}
+use Rattle.regmap.specs.Table.{table, rowOf}
+use Rattle.regmap.specs.Names.{named, everyName}
+use Rattle.regmap.specs.Places.{place}
 use Rattle.fields.specs.Values.{settable}
 use Rattle.settings.specs.Registers.{withField, fieldByte}
-use Rattle.fields.specs.Masks.{insideMasks}
+use Rattle.regmap.specs.Masks.{insideMasks}
 use Rattle.settings.specs.Claims.{Bytes}
-use Rattle.fields.proofs.Apart.{place-inside}
-use Rattle.fields.proofs.Masks.{inside-masks}
+use Rattle.regmap.proofs.Apart.{place-inside}
+use Rattle.regmap.proofs.Masks.{inside-masks}
 use Rattle.settings.proofs.Masks.{passes-masks}
 use Rattle.settings.proofs.Registers.{written}
 use Rattle.planner.specs.Submission.{Submission}

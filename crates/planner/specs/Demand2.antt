@@ -11,11 +11,11 @@ use Rattle.ads1299.specs.declared.Converter.{Converter}
 use Rattle.ads1299.specs.State.{withRegisters, withOutput}
 use Rattle.ads1299.specs.Formed.{Formed}
 use Rattle.ads1299.specs.Run.{after, runRefusals}
-use Rattle.fields.specs.declared.Place.{Place}
-use Rattle.fields.specs.Names.{named}
-use Rattle.fields.specs.Places.{place, apart}
+use Rattle.regmap.specs.declared.Place.{Place}
+use Rattle.regmap.specs.Names.{named}
+use Rattle.regmap.specs.Places.{place, apart}
 use Rattle.settings.specs.Registers.{readAt, fieldOf}
-use Rattle.fields.specs.Layout.{same}
+use Rattle.regmap.specs.Layout.{same}
 use Rattle.planner.specs.Submission.{Submission}
 use Rattle.planner.specs.Refusals.{refusals}
 use Rattle.planner.specs.Planned.{plan, planned}

@@ -6,7 +6,7 @@ use lib.ListN.{length}
 use Rattle.request.specs.declared.Request.{Request}
 use Rattle.commands.specs.Opcodes.{WAKEUP, STANDBY, RDATAC, SDATAC, WREG}
 use Rattle.ads1299.specs.declared.Converter.{Converter}
-use Rattle.fields.specs.Places.{place}
+use Rattle.regmap.specs.Places.{place}
 use Rattle.settings.specs.Registers.{fieldByte}
 
 -- gives the byte where it is wanted, or nothing

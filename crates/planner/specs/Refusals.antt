@@ -11,7 +11,7 @@ use Rattle.parties.specs.Parties.{admin}
 use Rattle.ads1299.specs.Validity.{valid}
 use Rattle.parties.specs.Parties.{knownParty}
 use Rattle.parties.specs.Owners.{ownerOf}
-use Rattle.fields.specs.Names.{isField, channelField, takesChannel}
+use Rattle.regmap.specs.Names.{isField, channelField, takesChannel}
 use Rattle.fields.specs.Values.{legal}
 use Rattle.planner.specs.Submission.{Submission}
 use Rattle.planner.specs.Plan.{planLength}

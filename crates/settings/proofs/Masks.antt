@@ -5,10 +5,10 @@ use mathlib.Core.List.{List}
 use Prim.Native.Nat.{ℕ}
 use lib.ListN.{getD}
 use Rattle.bits.proofs.Masks.{passes-mask}
-use Rattle.fields.specs.Places.{place}
+use Rattle.regmap.specs.Places.{place}
 use Rattle.fields.specs.Values.{settable}
-use Rattle.fields.specs.Masks.{InsideMasks}
-use Rattle.fields.proofs.Apart.{place-inside}
+use Rattle.regmap.specs.Masks.{InsideMasks}
+use Rattle.regmap.proofs.Apart.{place-inside}
 use Rattle.settings.specs.Registers.{fieldByte}
 use Rattle.settings.specs.Claims.{Bytes, PassesMasks}
 use Rattle.settings.proofs.Registers.{settable-facts}

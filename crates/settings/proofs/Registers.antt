@@ -14,14 +14,14 @@ use Rattle.bits.specs.Fields.{field, insertable}
 use Rattle.bits.proofs.Fields.{replaced, bit-of-field, same-bits}
 use Rattle.cases.proofs.Cases.{split, and-both}
 use Rattle.registers.specs.Addresses.{registerCount}
-use Rattle.fields.specs.declared.Place.{Place}
-use Rattle.fields.specs.Table.{rowOf}
-use Rattle.fields.specs.Names.{isField, named}
-use Rattle.fields.specs.Places.{place, apart, bitAt}
+use Rattle.regmap.specs.declared.Place.{Place}
+use Rattle.regmap.specs.Table.{rowOf}
+use Rattle.regmap.specs.Names.{isField, named}
+use Rattle.regmap.specs.Places.{place, apart, bitAt}
 use Rattle.fields.specs.Values.{fits, legal, settable}
 use Rattle.settings.specs.Registers.{readAt, writeAt, newByte, fieldOf, withField, fieldByte}
 use Rattle.settings.specs.Claims.{Bytes, Written, Unnamed}
-use Rattle.fields.proofs.Apart.{place-inside, places-apart, has}
+use Rattle.regmap.proofs.Apart.{place-inside, places-apart, has}
 
 module _ (l : List ℕ) (k : Place) (v : ℕ) (in-list : k .register < length l) (fit : v < 2 ^ k .width) where
   pub read-same : readAt (writeAt l k v) k ≡ v

@@ -5,10 +5,10 @@ use mathlib.Core.Path.{_≡_}
 use Prim.Native.Nat.{ℕ, _<_}
 use lib.ListN.{length, getD, set}
 use Rattle.bits.specs.Fields.{masked}
-use Rattle.fields.specs.declared.Place.{Place}
-use Rattle.fields.specs.Names.{named}
-use Rattle.fields.specs.Places.{place, apart}
-use Rattle.fields.specs.Layout.{same}
+use Rattle.regmap.specs.declared.Place.{Place}
+use Rattle.regmap.specs.Names.{named}
+use Rattle.regmap.specs.Places.{place, apart}
+use Rattle.regmap.specs.Layout.{same}
 use Rattle.settings.specs.Registers.{readAt, fieldOf, withField, fieldByte}
 
 -- every register holds a byte

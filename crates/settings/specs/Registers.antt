@@ -4,8 +4,8 @@ use mathlib.Core.List.{List}
 use Prim.Native.Nat.{ℕ}
 use lib.ListN.{getD, set}
 use Rattle.bits.specs.Fields.{field, inserted}
-use Rattle.fields.specs.declared.Place.{Place}
-use Rattle.fields.specs.Places.{place}
+use Rattle.regmap.specs.declared.Place.{Place}
+use Rattle.regmap.specs.Places.{place}
 use Rattle.fields.specs.Values.{settable}
 
 -- gives the value at a place

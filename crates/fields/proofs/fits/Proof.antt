@@ -1,8 +1,8 @@
 use Prim.Native.Nat.{_≤_}
-use Rattle.fields.proofs.Rows.{row-width}
+use Rattle.regmap.proofs.Rows.{row-width}
 use Rattle.fields.proofs.fits.Statement.{statement}
 use Rattle.fields.proofs.fits.Tie as tie
-use Rattle.fields.specs.Table.{rowOf}
+use Rattle.regmap.specs.Table.{rowOf}
 use Rattle.fields.specs.Values.{fits}
 use borrow.Author.Needs.{needs}
 use lib.Dec.{ltb}

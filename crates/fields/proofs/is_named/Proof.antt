@@ -1,6 +1,6 @@
 use Rattle.fields.proofs.is_named.Statement.{statement}
 use Rattle.fields.proofs.is_named.Tie as tie
-use Rattle.fields.specs.Names.{named}
+use Rattle.regmap.specs.Names.{named}
 use borrow.Author.Needs.{needs}
 
 pub is-named-spec : {M : Type 1} → statement M

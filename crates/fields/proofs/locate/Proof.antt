@@ -1,11 +1,11 @@
 use Prim.Native.Nat.{ℕ, _+_, _*_, _≤_, _<_}
 use Rattle.registers.specs.Addresses.{registerCount}
-use Rattle.fields.proofs.Apart.{place-inside}
+use Rattle.regmap.proofs.Apart.{place-inside}
 use Rattle.fields.proofs.locate.Statement.{statement}
 use Rattle.fields.proofs.locate.Tie as tie
-use Rattle.fields.specs.Names.{named}
-use Rattle.fields.specs.Places.{place}
-use Rattle.fields.specs.declared.Entry.{Entry}
+use Rattle.regmap.specs.Names.{named}
+use Rattle.regmap.specs.Places.{place}
+use Rattle.regmap.specs.declared.Entry.{Entry}
 use borrow.Author.Needs.{needs}
 use mathlib.Core.Bool.{true}
 use mathlib.Core.Path.{_≡_, sym, _∙_}

@@ -1,4 +1,4 @@
-use Rattle.fields.proofs.Apart.{place-in-list}
+use Rattle.regmap.proofs.Apart.{place-in-list}
 use Rattle.settings.proofs.Registers.{Settable, settable-facts}
 use Rattle.settings.proofs.new_byte.Statement.{statement}
 use Rattle.settings.proofs.new_byte.Tie as tie

@@ -1,4 +1,4 @@
-use Rattle.fields.proofs.Apart.{place-in-list}
+use Rattle.regmap.proofs.Apart.{place-in-list}
 use Rattle.settings.proofs.read.Statement.{statement}
 use Rattle.settings.proofs.read.Tie as tie
 use Rattle.settings.specs.Registers.{readAt, fieldOf}

@@ -3,7 +3,7 @@ use mathlib.Core.List.{List, [], _∷_}
 use Prim.Native.Nat.{ℕ}
 use lib.ListN.{getD}
 use Rattle.registers.specs.Addresses.{CONFIG1, CONFIG2, CONFIG3, LOFF, CH1SET, BIAS_SENSP, BIAS_SENSN, LOFF_SENSP, LOFF_SENSN, LOFF_FLIP, MISC1, CONFIG4}
-use Rattle.fields.specs.declared.Entry.{Entry}
+use Rattle.regmap.specs.declared.Entry.{Entry}
 
 -- A field: its register and lowest bit, of channel 1 if it is a channel's; how far each moves from one channel to the next; its
 -- width; and the one value of that width that is refused.

@@ -2,9 +2,9 @@
 use mathlib.Core.Bool.{Bool, cond, not, _||_}
 use Prim.Native.Nat.{ℕ, _+_, _*_, _-_}
 use lib.Dec.{leb, eqb}
-use Rattle.fields.specs.declared.Place.{Place}
-use Rattle.fields.specs.Table.{Row, rowOf}
-use Rattle.fields.specs.Names.{named}
+use Rattle.regmap.specs.declared.Place.{Place}
+use Rattle.regmap.specs.Table.{Row, rowOf}
+use Rattle.regmap.specs.Names.{named}
 
 -- gives the place of a row's field, that many channels after channel 1
 abbrev pub placeOf : Row → ℕ → Place

@@ -10,7 +10,7 @@ use Rattle.cases.proofs.Cases.{split, and-both}
 use Rattle.cases.proofs.Below.{below-at, below-find}
 use Rattle.registers.specs.Addresses.{channelCount}
 use Rattle.parties.proofs.Bounds.{bounds}
-use Rattle.fields.specs.Names.{fieldCount, isField, channelField, takesChannel, named, everyName}
+use Rattle.regmap.specs.Names.{fieldCount, isField, channelField, takesChannel, named, everyName}
 
 -- the numbers of a name are within the table
 pub named-range : (f n : ℕ) → named f n ≡ true → (f < fieldCount + 1) × (n < channelCount + 1)

@@ -9,9 +9,9 @@ use Rattle.bits.specs.Fields.{field, bit}
 use Rattle.bits.specs.Laws.{Covers}
 use Rattle.cases.specs.Below.{below}
 use Rattle.registers.specs.Addresses.{registerCount, GPIO}
-use Rattle.fields.specs.Names.{named, everyName}
-use Rattle.fields.specs.Places.{place, apart, bitAt}
-use Rattle.fields.specs.Layout.{InField}
+use Rattle.regmap.specs.Names.{named, everyName}
+use Rattle.regmap.specs.Places.{place, apart, bitAt}
+use Rattle.regmap.specs.Layout.{InField}
 
 -- Every field lies inside its register's mask.
 abbrev pub InsideMasks : List ℕ → Type 0

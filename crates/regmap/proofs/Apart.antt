@@ -8,12 +8,12 @@ use lib.Dec.{ltb, leb, eqb}
 use borrow.Author.Tests.{ltb-true, leb-true, leb-false, eqb-true, eq-eqb, lt-leb}
 use Rattle.cases.proofs.Cases.{split, and-both}
 use Rattle.registers.specs.Addresses.{registerCount, ID}
-use Rattle.fields.specs.declared.Place.{Place}
-use Rattle.fields.specs.Table.{table, rowOf}
-use Rattle.fields.specs.Names.{named, everyName}
-use Rattle.fields.specs.Places.{place, apart, bitAt}
-use Rattle.fields.specs.Layout.{same, InField, Free, Inside, Layout}
-use Rattle.fields.proofs.Names.{every-at, every-find}
+use Rattle.regmap.specs.declared.Place.{Place}
+use Rattle.regmap.specs.Table.{table, rowOf}
+use Rattle.regmap.specs.Names.{named, everyName}
+use Rattle.regmap.specs.Places.{place, apart, bitAt}
+use Rattle.regmap.specs.Layout.{same, InField, Free, Inside, Layout}
+use Rattle.regmap.proofs.Names.{every-at, every-find}
 
 abbrev within : Place → Bool
 within k = ltb ID (k .register) && ltb (k .register) registerCount && leb (k .width + k .bit) 8

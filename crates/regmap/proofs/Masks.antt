@@ -10,10 +10,10 @@ use Rattle.bits.specs.Fields.{field, bit}
 use Rattle.cases.specs.Below.{below}
 use Rattle.cases.proofs.Below.{below-at}
 use Rattle.registers.specs.Addresses.{registerCount, GPIO}
-use Rattle.fields.specs.Names.{everyName}
-use Rattle.fields.specs.Places.{place, apart, bitAt}
-use Rattle.fields.specs.Masks.{InsideMasks, FillsMasks, insideMasks, fillsMasks}
-use Rattle.fields.proofs.Names.{every-at, every-find}
+use Rattle.regmap.specs.Names.{everyName}
+use Rattle.regmap.specs.Places.{place, apart, bitAt}
+use Rattle.regmap.specs.Masks.{InsideMasks, FillsMasks, insideMasks, fillsMasks}
+use Rattle.regmap.proofs.Names.{every-at, every-find}
 
 pub inside-masks : (masks : List ℕ) → insideMasks masks ≡ true → InsideMasks masks
 unfolding insideMasks

@@ -4,9 +4,9 @@ use mathlib.Core.Path.{_≡_}
 use Prim.Native.Nat.{ℕ, _+_, _≤_, _<_}
 use lib.Dec.{eqb}
 use Rattle.registers.specs.Addresses.{registerCount, ID}
-use Rattle.fields.specs.declared.Place.{Place}
-use Rattle.fields.specs.Names.{named}
-use Rattle.fields.specs.Places.{place, apart, bitAt}
+use Rattle.regmap.specs.declared.Place.{Place}
+use Rattle.regmap.specs.Names.{named}
+use Rattle.regmap.specs.Places.{place, apart, bitAt}
 
 -- field f of channel n is field g of channel m
 abbrev pub same : ℕ → ℕ → ℕ → ℕ → Bool
