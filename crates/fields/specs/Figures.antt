@@ -1,12 +1,11 @@
--- Worked figures that the definitions are held to, document 01's among them.
+-- Worked figures of values that the definitions are held to, document 01's among them.
 use mathlib.Core.Bool.{Bool, true, false, not, _&&_}
 use mathlib.Core.List.{List, [], _∷_}
 use Prim.Native.Nat.{ℕ}
 use Rattle.fields.specs.Values.{legal}
 
--- A figure by its kind.
+-- A figure: a field, a value, and whether it is legal.
 pub data Figure : Type 0 where
-  -- field, value; legal or not
   Judged : ℕ → ℕ → Bool → Figure
 
 -- the definitions give the figure

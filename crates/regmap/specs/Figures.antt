@@ -1,4 +1,4 @@
--- Worked figures that the definitions are held to, document 01's among them.
+-- Worked figures of places and masks that the definitions are held to, document 01's among them.
 use mathlib.Core.Bool.{Bool, true, _&&_}
 use mathlib.Core.List.{List, [], _∷_, _++_}
 use Prim.Native.Nat.{ℕ}

@@ -63,6 +63,6 @@ table =
 unfoldable pub rowOf : ℕ → Row
 rowOf f = getD table f noRow
 
--- gives a row as the code's table holds it
+-- gives a row as the code holds it
 abbrev pub entryOf : Row → Entry
 entryOf r = record { 0 = r .register; 1 = r .registerStep; 2 = r .bit; 3 = r .bitStep; 4 = r .width; 5 = r .refused }

@@ -1,4 +1,4 @@
-// The register map: where each of the 26 fields lies in the registers, and which value of it is refused, as data.
+// The register map: where each of the 26 fields lies in the registers, and which value of it is refused, a row each.
 use registers::BIAS_SENSN;
 use registers::BIAS_SENSP;
 use registers::CH1SET;
