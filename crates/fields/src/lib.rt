@@ -71,7 +71,7 @@ pub fn locate(field: u32, channel: u32) -> Place
         Place {
             register: (register + register_step * steps) as u8,
             bit: (bit + bit_step * steps) as u8,
-            width: width as u8,
+            width,
         }
     } else {
         Place {
@@ -87,7 +87,7 @@ fn fits(field: u32, value: u32) -> bool
     ensures { λ r. ⌜ r ≡ fits field value ⌝ }
 {
     let Entry(_, _, _, _, width, _) = look_up(field);
-    (value as usize) < 1usize << width
+    value < 1u32 << width
 }
 
 // Whether a request may set the field to this value; false for an unknown field.
@@ -97,7 +97,7 @@ pub fn is_legal(field: u32, value: u32) -> bool
     if is_field(field) {
         if fits(field, value) {
             let Entry(_, _, _, _, _, refused) = look_up(field);
-            value as usize != refused
+            value != refused
         } else {
             false
         }

@@ -15,7 +15,7 @@ ghost use mathlib.Core.Path.{_≡_};
 ghost use Rattle.regmap.specs.Table.{rowOf, entryOf};
 
 // Stands where every value of the width is legal: no width holds this number.
-const NONE_REFUSED: usize = 256;
+const NONE_REFUSED: u32 = 256;
 
 // A row of the map: where a field lies, and which value of it is refused.
 pub struct Entry(
@@ -23,8 +23,8 @@ pub struct Entry(
     pub usize, // how far that moves from one channel to the next
     pub usize, // lowest bit, of channel 1 as well
     pub usize, // how far that moves
-    pub usize, // width
-    pub usize, // the value that is refused
+    pub u8, // width
+    pub u32, // the value that is refused
 );
 
 const NO_FIELD: Entry = Entry(0, 0, 0, 0, 0, 0);

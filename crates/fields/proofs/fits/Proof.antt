@@ -18,7 +18,8 @@ fits-spec =
     (tie.spec
     (λ c κs. search needs)
     (λ c. rw (c .look-up .ensures) (omega (arith, row-width (c .before .args .field))))
+    (λ c. rw (c .look-up .ensures) (omega (arith, row-width (c .before .args .field))))
     (λ c.
     let w = rowOf (c .before .args .field) .width in
     let le : w ≤ 8 = row-width (c .before .args .field) in
-    rw (c .look-up .ensures) (ap (ltb (c .before .args .value)) (shl-exact 1 w 64 (omega arith) (omega arith) ∙ one-mul _))))
+    rw (c .look-up .ensures) (ap (ltb (c .before .args .value)) (shl-exact 1 w 32 (omega arith) (omega arith) ∙ one-mul _))))

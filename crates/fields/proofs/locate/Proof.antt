@@ -38,6 +38,5 @@ locate-spec =
     (λ c. let b = bounds c in omega arith)
     (λ c. let b = bounds c in omega arith)
     (λ c. let b = bounds c in omega arith)
-    (λ c. let b = bounds c in omega arith)
     (λ c. simp (← c .before .before .before .is-named .ensures, c .before .before .if1 .taken, c .before .look-up .ensures, c .count-steps .ensures))
     (λ c. simp (← c .before .is-named .ensures, c .if1 .left)))
