@@ -1,6 +1,7 @@
 // The fields that a request can name: with which channel, where each lies in the registers, and which values it takes. Every number
 // is judged as it comes, and never cut to a byte before.
 use regmap::Entry;
+use regmap::FIELDS;
 use regmap::Place;
 use regmap::look_up;
 ghost use mathlib.Core.Path.{_≡_};
@@ -8,8 +9,6 @@ ghost use Prim.Native.Nat.{_-_};
 ghost use Rattle.regmap.specs.Names.{isField, channelField, takesChannel, named};
 ghost use Rattle.regmap.specs.Places.{place};
 ghost use Rattle.fields.specs.Values.{fits, legal, settable};
-
-const FIELDS: u32 = 26;
 
 // Fields 1 to 9 are a channel's, the others are shared.
 const CHANNEL_FIELDS: u32 = 9;

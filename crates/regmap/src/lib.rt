@@ -29,6 +29,40 @@ pub struct Entry(
 
 const NO_FIELD: Entry = Entry(0, 0, 0, 0, 0, 0);
 
+// How many fields a request can name.
+pub const FIELDS: u32 = 26;
+
+// By field number; 0 is no field.
+const TABLE: [Entry; 27] = [
+    NO_FIELD,
+    Entry(CH1SET, 1, 7, 0, 1, NONE_REFUSED), // 1 PDn
+    Entry(CH1SET, 1, 4, 0, 3, 7), // 2 GAINn
+    Entry(CH1SET, 1, 3, 0, 1, NONE_REFUSED), // 3 SRB2
+    Entry(CH1SET, 1, 0, 0, 3, NONE_REFUSED), // 4 MUXn
+    Entry(BIAS_SENSP, 0, 0, 1, 1, NONE_REFUSED), // 5 BIASPn
+    Entry(BIAS_SENSN, 0, 0, 1, 1, NONE_REFUSED), // 6 BIASNn
+    Entry(LOFF_SENSP, 0, 0, 1, 1, NONE_REFUSED), // 7 LOFFPn
+    Entry(LOFF_SENSN, 0, 0, 1, 1, NONE_REFUSED), // 8 LOFFMn
+    Entry(LOFF_FLIP, 0, 0, 1, 1, NONE_REFUSED), // 9 LOFF_FLIPn
+    Entry(CONFIG1, 0, 6, 0, 1, NONE_REFUSED), // 10 DAISY_EN
+    Entry(CONFIG1, 0, 5, 0, 1, NONE_REFUSED), // 11 CLK_EN
+    Entry(CONFIG1, 0, 0, 0, 3, 7), // 12 DR
+    Entry(CONFIG2, 0, 4, 0, 1, NONE_REFUSED), // 13 INT_CAL
+    Entry(CONFIG2, 0, 2, 0, 1, NONE_REFUSED), // 14 CAL_AMP
+    Entry(CONFIG2, 0, 0, 0, 2, 2), // 15 CAL_FREQ
+    Entry(CONFIG3, 0, 7, 0, 1, NONE_REFUSED), // 16 PD_REFBUF
+    Entry(CONFIG3, 0, 4, 0, 1, NONE_REFUSED), // 17 BIAS_MEAS
+    Entry(CONFIG3, 0, 3, 0, 1, NONE_REFUSED), // 18 BIASREF_INT
+    Entry(CONFIG3, 0, 2, 0, 1, NONE_REFUSED), // 19 PD_BIAS
+    Entry(CONFIG3, 0, 1, 0, 1, NONE_REFUSED), // 20 BIAS_LOFF_SENS
+    Entry(LOFF, 0, 5, 0, 3, NONE_REFUSED), // 21 COMP_TH
+    Entry(LOFF, 0, 2, 0, 2, NONE_REFUSED), // 22 ILEAD_OFF
+    Entry(LOFF, 0, 0, 0, 2, NONE_REFUSED), // 23 FLEAD_OFF
+    Entry(MISC1, 0, 5, 0, 1, NONE_REFUSED), // 24 SRB1
+    Entry(CONFIG4, 0, 3, 0, 1, NONE_REFUSED), // 25 SINGLE_SHOT
+    Entry(CONFIG4, 0, 1, 0, 1, NONE_REFUSED), // 26 PD_LOFF_COMP
+];
+
 // A field of a register, by its lowest bit and its width.
 pub struct Place {
     pub register: u8,
@@ -40,33 +74,9 @@ pub struct Place {
 pub fn look_up(field: u32) -> Entry
     ensures { λ r. ⌜ r ≡ entryOf (rowOf field) ⌝ }
 {
-    match field {
-        1 => Entry(CH1SET, 1, 7, 0, 1, NONE_REFUSED), // PDn
-        2 => Entry(CH1SET, 1, 4, 0, 3, 7), // GAINn
-        3 => Entry(CH1SET, 1, 3, 0, 1, NONE_REFUSED), // SRB2
-        4 => Entry(CH1SET, 1, 0, 0, 3, NONE_REFUSED), // MUXn
-        5 => Entry(BIAS_SENSP, 0, 0, 1, 1, NONE_REFUSED), // BIASPn
-        6 => Entry(BIAS_SENSN, 0, 0, 1, 1, NONE_REFUSED), // BIASNn
-        7 => Entry(LOFF_SENSP, 0, 0, 1, 1, NONE_REFUSED), // LOFFPn
-        8 => Entry(LOFF_SENSN, 0, 0, 1, 1, NONE_REFUSED), // LOFFMn
-        9 => Entry(LOFF_FLIP, 0, 0, 1, 1, NONE_REFUSED), // LOFF_FLIPn
-        10 => Entry(CONFIG1, 0, 6, 0, 1, NONE_REFUSED), // DAISY_EN
-        11 => Entry(CONFIG1, 0, 5, 0, 1, NONE_REFUSED), // CLK_EN
-        12 => Entry(CONFIG1, 0, 0, 0, 3, 7), // DR
-        13 => Entry(CONFIG2, 0, 4, 0, 1, NONE_REFUSED), // INT_CAL
-        14 => Entry(CONFIG2, 0, 2, 0, 1, NONE_REFUSED), // CAL_AMP
-        15 => Entry(CONFIG2, 0, 0, 0, 2, 2), // CAL_FREQ
-        16 => Entry(CONFIG3, 0, 7, 0, 1, NONE_REFUSED), // PD_REFBUF
-        17 => Entry(CONFIG3, 0, 4, 0, 1, NONE_REFUSED), // BIAS_MEAS
-        18 => Entry(CONFIG3, 0, 3, 0, 1, NONE_REFUSED), // BIASREF_INT
-        19 => Entry(CONFIG3, 0, 2, 0, 1, NONE_REFUSED), // PD_BIAS
-        20 => Entry(CONFIG3, 0, 1, 0, 1, NONE_REFUSED), // BIAS_LOFF_SENS
-        21 => Entry(LOFF, 0, 5, 0, 3, NONE_REFUSED), // COMP_TH
-        22 => Entry(LOFF, 0, 2, 0, 2, NONE_REFUSED), // ILEAD_OFF
-        23 => Entry(LOFF, 0, 0, 0, 2, NONE_REFUSED), // FLEAD_OFF
-        24 => Entry(MISC1, 0, 5, 0, 1, NONE_REFUSED), // SRB1
-        25 => Entry(CONFIG4, 0, 3, 0, 1, NONE_REFUSED), // SINGLE_SHOT
-        26 => Entry(CONFIG4, 0, 1, 0, 1, NONE_REFUSED), // PD_LOFF_COMP
-        _ => NO_FIELD,
+    if field <= FIELDS {
+        TABLE[field as usize]
+    } else {
+        NO_FIELD
     }
 }
