@@ -1,4 +1,2 @@
-pub mod Reading
 pub mod Frame
-pub mod RoundTrip
 pub mod Figures

@@ -1,4 +1,2 @@
 pub mod Frame
-pub mod Reading
-pub mod RoundTrip
 pub mod Figures

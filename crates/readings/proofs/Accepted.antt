@@ -11,7 +11,7 @@ use Rattle.refusal.specs.Numbers.{none}
 use Rattle.refusal.proofs.First.{exact}
 use Rattle.registers.specs.Addresses.{channelCount}
 use Rattle.frame.specs.Frame.{frameLength, frameMark}
-use Rattle.frame.specs.Reading.{leadingBits, isFrame}
+use Rattle.readout.specs.Reading.{leadingBits, isFrame}
 use Rattle.ads1299.specs.declared.Converter.{Converter}
 use Rattle.parties.specs.Parties.{largestParty}
 use Rattle.ads1299.specs.Validity.{valid}

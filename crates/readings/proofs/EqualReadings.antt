@@ -2,7 +2,7 @@
 use Prim.Native.Nat.{ℕ}
 use mathlib.Core.Path.{_≡_}
 use mathlib.Core.List.{List}
-use Rattle.frame.proofs.Reading.{local-reading}
+use Rattle.readout.proofs.Reading.{local-reading}
 use Rattle.ads1299.specs.declared.Converter.{Converter}
 use Rattle.readings.specs.Reading.{readingRefusal, channelReading, partBytes, partPlace}
 use Rattle.readings.specs.Claims.{Alike, EqualReadings}

@@ -3,7 +3,7 @@ use mathlib.Core.Path.{refl}
 use Rattle.bits.specs.Fields.{field, bit}
 use Rattle.codes.specs.Codes.{codeOf}
 use Rattle.codes.specs.Words.{word, wordAt}
-use Rattle.frame.specs.Reading.{leadingBits, isFrame, channelBytes, codeAt, statusP, statusN, leadOffP, leadOffN}
+use Rattle.readout.specs.Reading.{leadingBits, isFrame, channelBytes, codeAt, statusP, statusN, leadOffP, leadOffN}
 use Rattle.ads1299.specs.Registers.{powerUp}
 use Rattle.ads1299.specs.PowerUp.{validId, restored, poweredUp}
 use Rattle.ads1299.specs.Validity.{validConverter, valid}

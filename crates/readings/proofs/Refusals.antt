@@ -8,7 +8,7 @@ use lib.ListN.{length, length-take, length-drop}
 use Rattle.cases.proofs.Cases.{split}
 use Rattle.refusal.specs.Numbers.{none}
 use Rattle.refusal.specs.First.{accepted}
-use Rattle.frame.specs.Reading.{channelBytes}
+use Rattle.readout.specs.Reading.{channelBytes}
 use Rattle.ads1299.specs.declared.Converter.{Converter}
 use Rattle.readings.specs.Reading.{readingRefusal, channelReading, partBytes}
 use Rattle.readings.specs.Claims.{ThreeOrNone}

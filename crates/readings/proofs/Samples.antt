@@ -16,9 +16,9 @@ use Rattle.refusal.proofs.First.{exact}
 use Rattle.registers.specs.Addresses.{channelCount, CH1SET, GPIO, LOFF_STATP, LOFF_STATN}
 use Rattle.codes.specs.Codes.{allInRange}
 use Rattle.frame.specs.Frame.{poweredDown, shown, frameOf}
-use Rattle.frame.specs.Reading.{isFrame}
-use Rattle.frame.specs.RoundTrip.{ReadsBack}
-use Rattle.frame.proofs.RoundTrip.{frames-read-back}
+use Rattle.readout.specs.Reading.{isFrame}
+use Rattle.readout.specs.RoundTrip.{ReadsBack}
+use Rattle.readout.proofs.RoundTrip.{frames-read-back}
 use Rattle.ads1299.specs.declared.Converter.{Converter}
 use Rattle.ads1299.specs.declared.Moved.{Moved}
 use Rattle.parties.specs.Parties.{largestParty}

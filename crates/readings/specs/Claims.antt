@@ -11,7 +11,7 @@ use Rattle.bits.specs.Fields.{bit}
 use Rattle.codes.specs.Codes.{wordOf}
 use Rattle.codes.specs.Words.{wordBytes}
 use Rattle.frame.specs.Frame.{shown}
-use Rattle.frame.specs.Reading.{leadingBits, channelBytes, leadOffP, leadOffN}
+use Rattle.readout.specs.Reading.{leadingBits, channelBytes, leadOffP, leadOffN}
 use Rattle.ads1299.specs.declared.Converter.{Converter}
 use Rattle.ads1299.specs.Validity.{valid}
 use Rattle.ads1299.specs.Sample.{sampled}

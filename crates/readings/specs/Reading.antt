@@ -5,7 +5,7 @@ use mathlib.Core.List.{List, [], _∷_}
 use lib.IntN.{ℤ, pos}
 use Rattle.refusal.specs.Numbers.{none, unknownParty, wrongChannel, notOwner, badFrame, invalidState}
 use Rattle.refusal.specs.First.{firstOf, accepted}
-use Rattle.frame.specs.Reading.{isFrame, channelBytes, codeAt, leadOffP, leadOffN}
+use Rattle.readout.specs.Reading.{isFrame, channelBytes, codeAt, leadOffP, leadOffN}
 use Rattle.ads1299.specs.declared.Converter.{Converter}
 use Rattle.ads1299.specs.Validity.{valid}
 use Rattle.readings.specs.declared.Reading.{Reading}

@@ -31,7 +31,7 @@ fn refuse_reading(converter: Converter, party: u32, channel: u32, frame: &[u8]) 
     if !parties::is_owner(owners, party, channel) {
         return refusal::NOT_OWNER;
     }
-    if !frame::is_frame(frame) {
+    if !readout::is_frame(frame) {
         return refusal::BAD_FRAME;
     }
     refusal::NONE
@@ -45,9 +45,9 @@ pub fn read_channel(converter: Converter, party: u32, channel: u32, frame: &[u8]
     if number == refusal::NONE {
         Reading {
             refusal: refusal::NONE,
-            code: frame::channel_code(frame, channel),
-            p: frame::lead_off_p(frame, channel),
-            n: frame::lead_off_n(frame, channel),
+            code: readout::channel_code(frame, channel),
+            p: readout::lead_off_p(frame, channel),
+            n: readout::lead_off_n(frame, channel),
         }
     } else {
         Reading {

@@ -4,7 +4,7 @@ use Rattle.readings.proofs.Accepted.{frame-whole, readable}
 use Rattle.readings.proofs.channel_bytes.Statement.{statement}
 use Rattle.readings.proofs.channel_bytes.Tie as tie
 use Rattle.readings.specs.Reading.{partBytes, partPlace}
-use Rattle.frame.specs.Reading.{channelBytes}
+use Rattle.readout.specs.Reading.{channelBytes}
 use borrow.Author.Needs.{needs}
 use borrow.Author.Tests.{eq-eqb, ne-eqb}
 use mathlib.Core.Path.{_≡_, sym, _∙_}

@@ -1,5 +1,5 @@
-use Rattle.frame.proofs.channel_bit.Statement.{statement}
-use Rattle.frame.proofs.channel_bit.Tie as tie
+use Rattle.readout.proofs.channel_bit.Statement.{statement}
+use Rattle.readout.proofs.channel_bit.Tie as tie
 use Prim.Native.Nat.{_-_}
 use borrow.Author.Needs.{needs}
 use mathlib.Core.Path.{_≡_}

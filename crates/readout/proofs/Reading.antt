@@ -9,7 +9,7 @@ use lib.Seq.{getD-take, getD-drop}
 use Rattle.bits.specs.Fields.{field}
 use Rattle.codes.specs.Codes.{codeOf}
 use Rattle.codes.specs.Words.{word, wordAt}
-use Rattle.frame.specs.Reading.{isFrame, channelBytes, codeAt, statusP, statusN, LocalReading}
+use Rattle.readout.specs.Reading.{isFrame, channelBytes, codeAt, statusP, statusN, LocalReading}
 use Rattle.codes.proofs.Words.{same-word}
 
 -- a channel's word is that of its three bytes

@@ -1,7 +1,7 @@
-use Rattle.frame.proofs.is_frame.Statement.{statement}
-use Rattle.frame.proofs.is_frame.Tie as tie
+use Rattle.readout.proofs.is_frame.Statement.{statement}
+use Rattle.readout.proofs.is_frame.Tie as tie
 use Rattle.frame.specs.Frame.{frameLength}
-use Rattle.frame.specs.Reading.{leadingBits, isFrame}
+use Rattle.readout.specs.Reading.{leadingBits, isFrame}
 use borrow.Author.Needs.{needs}
 use borrow.Author.Tests.{eq-eqb, ne-eqb}
 use denote.Ref.{now}

@@ -1,7 +1,7 @@
-use Rattle.frame.proofs.lead_off_n.Statement.{statement}
-use Rattle.frame.proofs.lead_off_n.Tie as tie
-use Rattle.frame.proofs.Reading.{across-n}
-use Rattle.frame.specs.Reading.{leadOffN}
+use Rattle.readout.proofs.lead_off_n.Statement.{statement}
+use Rattle.readout.proofs.lead_off_n.Tie as tie
+use Rattle.readout.proofs.Reading.{across-n}
+use Rattle.readout.specs.Reading.{leadOffN}
 use borrow.Author.Needs.{needs}
 use denote.Ref.{now}
 use native.Mathlib.Omega.{arith}

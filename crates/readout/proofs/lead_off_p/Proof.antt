@@ -1,7 +1,7 @@
-use Rattle.frame.proofs.lead_off_p.Statement.{statement}
-use Rattle.frame.proofs.lead_off_p.Tie as tie
-use Rattle.frame.proofs.Reading.{across-p}
-use Rattle.frame.specs.Reading.{leadOffP}
+use Rattle.readout.proofs.lead_off_p.Statement.{statement}
+use Rattle.readout.proofs.lead_off_p.Tie as tie
+use Rattle.readout.proofs.Reading.{across-p}
+use Rattle.readout.specs.Reading.{leadOffP}
 use borrow.Author.Needs.{needs}
 use denote.Ref.{now}
 use native.Mathlib.Omega.{arith}

@@ -9,8 +9,8 @@ use Rattle.registers.specs.Addresses.{GPIO, channelCount}
 use Rattle.bits.specs.Fields.{bit}
 use Rattle.codes.specs.Codes.{allInRange, wordOf}
 use Rattle.codes.specs.Words.{wordBytes}
 use Rattle.frame.specs.Frame.{frameLength, shown, frameOf}
-use Rattle.frame.specs.Reading.{isFrame, channelBytes, codeAt, leadOffP, leadOffN}
+use Rattle.readout.specs.Reading.{isFrame, channelBytes, codeAt, leadOffP, leadOffN}
 
 -- a frame says of each channel what went in: its code, or 0 where it is powered down, and its bits of P and N
 pub record ReadsBack (registers : List ℕ) (codes : List ℤ) (p n : ℕ) (frame : List ℕ) : Type 0 where

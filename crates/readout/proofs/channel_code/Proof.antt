@@ -1,7 +1,7 @@
-use Rattle.frame.proofs.channel_code.Statement.{statement}
-use Rattle.frame.proofs.channel_code.Tie as tie
+use Rattle.readout.proofs.channel_code.Statement.{statement}
+use Rattle.readout.proofs.channel_code.Tie as tie
 use Rattle.codes.specs.Words.{wordAt}
-use Rattle.frame.specs.Reading.{codeAt}
+use Rattle.readout.specs.Reading.{codeAt}
 use borrow.Author.Needs.{needs}
 use mir.Facts.{toZ-ofZ}
 use mathlib.Core.Path.{_∙_}
