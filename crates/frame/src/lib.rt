@@ -2,7 +2,8 @@
 ghost use mathlib.Core.Path.{_≡_};
 ghost use Prim.Native.Nat.{_<_, _≤_};
 ghost use Rattle.registers.specs.Addresses.{channelCount};
-ghost use Rattle.frame.specs.Frame.{shown, frameOf};
+ghost use Rattle.codes.specs.Words.{wordBytes};
+ghost use Rattle.frame.specs.Frame.{shown, statusWord, frameWord, frameOf};
 
 // The bytes of a frame: a word for the status and one for each channel.
 pub const LENGTH: usize = 27;
@@ -22,23 +23,40 @@ fn shown(registers: [u8; registers::COUNT], codes: &[i32], channel: usize) -> i3
     if k < codes.len() { codes[k] } else { 0 }
 }
 
-// The frame of a sample: the status word, in which P and N lie each across two bytes, and then the channels' words.
-// A code that is not given counts as 0, and those after the eighth are not looked at.
+// The three bytes of the status word, in which P and N lie each across two bytes.
+fn status_bytes(p: u8, n: u8, gpio: u8) -> [u8; 3]
+    ensures { λ r. ⌜ r ≡ wordBytes (statusWord p n gpio) ⌝ }
+{
+    [
+        MARK * 0x10 + p / 0x10,
+        p % 0x10 * 0x10 + n / 0x10,
+        n % 0x10 * 0x10 + gpio / 0x10,
+    ]
+}
+
+// The three bytes of word i of a frame: word 0 is the status word, word n is channel n's.
+fn word_bytes(registers: [u8; registers::COUNT], codes: &[i32], p: u8, n: u8, i: usize) -> [u8; 3]
+    requires { ⌜ i ≤ channelCount ⌝ }
+    ensures { λ r. ⌜ r ≡ wordBytes (frameWord registers (now (codes .entry)) p n i) ⌝ }
+{
+    if i == 0 {
+        status_bytes(p, n, registers[registers::GPIO])
+    } else {
+        codes::code_bytes(shown(registers, codes, i))
+    }
+}
+
+// The frame of a sample. A code that is not given counts as 0, and those after the eighth are not looked at.
+// A word is worked out anew for each of its bytes, so that the loop has one store, not three: that keeps its proof short.
 pub fn build(registers: [u8; registers::COUNT], codes: &[i32], p: u8, n: u8) -> [u8; LENGTH]
     ensures { λ r. ⌜ r ≡ frameOf registers (now (codes .entry)) p n ⌝ }
 {
     let mut frame = [0u8; LENGTH];
-    frame[0] = MARK * 0x10 + p / 0x10;
-    frame[1] = p % 0x10 * 0x10 + n / 0x10;
-    frame[2] = n % 0x10 * 0x10 + registers[registers::GPIO] / 0x10;
-    let mut channel: usize = 1;
-    while channel <= registers::CHANNELS {
-        let bytes = codes::code_bytes(shown(registers, codes, channel));
-        let at = 3 * channel;
-        frame[at] = bytes[0];
-        frame[at + 1] = bytes[1];
-        frame[at + 2] = bytes[2];
-        channel += 1;
+    let mut i = 0;
+    while i < LENGTH {
+        let bytes = word_bytes(registers, codes, p, n, i / 3);
+        frame[i] = bytes[i % 3];
+        i += 1;
     }
     frame
 }
