@@ -12,7 +12,7 @@ use lib.ListN.{length}
 use lib.Pow.{areBytes}
 use Rattle.refusal.specs.Numbers.{none}
 use Rattle.refusal.specs.First.{accepted}
-use Rattle.leb128.specs.Numbers.{base, largest}
+use Rattle.leb128.specs.Numbers.{base, largest, found}
 use Rattle.leb128.specs.Encoding.{encoded}
 use Rattle.leb128.specs.Decoding.{decoded}
 use Rattle.leb128.specs.RoundTrip.{Counted, ReadsBack, WritesBack, RoundTrip}
@@ -58,20 +58,28 @@ counted (suc k) (b ∷ bs) =
     (λ z. rw (a, r, z) (record { some = λ e. omega arith; most = omega arith; within = omega arith })))
     (λ r. rw (a, r) (record { some = rest .some; most = omega arith; within = omega arith })))
 
+-- the groups after the lowest hold what is left of a number
+left-small : (k n : ℕ) → n ≤ largest (suc k) → n / base ≤ largest k
+left-small k n h = let lt = below (suc k) h in omega (arith, pow-succ' base k)
+
+whole : (n : ℕ) → base + n % base - base + base * (n / base) ≡ n
+whole n = omega arith
+
+-- one more group
+reads-more : (k n : ℕ) (rest : List ℕ) → base ≤ n → decoded k (encoded k (n / base) ++ rest) ≡ found (n / base) (length (encoded k (n / base)))
+    → decoded (suc k) (encoded (suc k) n ++ rest) ≡ found n (length (encoded (suc k) n))
+reads-more k n rest l e =
+    rw (encoded-more k n l, decoded-more k ((base + n % base) ∷ encoded k (n / base) ++ rest) (omega arith) (omega arith), e, join (base + n % base - base) (n / base) (length (encoded k (n / base))) (omega arith), whole n, add-one)
+
 reads-back : (k : ℕ) → 0 < k → ReadsBack k
 reads-back zero h n rest le = absurd (not-suc-le-zero h)
 reads-back (suc k) h n rest le =
-    let lt = below (suc k) le in
-    let power = pow-succ' base k in
     split (ltb n base)
     (λ a. let s = ltb-true n base a in rw (encoded-last k n s) (decoded-last k (n ∷ rest) (omega arith) s))
     (λ a.
     let l = ltb-false n base a in
-    let high : n / base < base ^ k = omega arith in
-    let low : base + n % base - base ≡ n % base = omega arith in
-    let whole : n % base + base * (n / base) ≡ n = omega arith in
-    let more = encoded k (n / base) in
-    rw (encoded-more k n l, decoded-more k ((base + n % base) ∷ more ++ rest) (omega arith) (omega arith), reads-back k (positive k (n / base) high (omega arith)) (n / base) rest (omega arith), low, join (n % base) (n / base) (length more) (omega arith), whole, add-one))
+    let small = left-small k n le in
+    reads-more k n rest l (reads-back k (positive k (n / base) (below k small) (omega arith)) (n / base) rest small))
 
 writes-back : (k : ℕ) (bytes : List ℕ) → areBytes bytes ≡ true → decoded k bytes .refusal ≡ none → WritesBack k bytes (decoded k bytes)
 unfolding decoded
