@@ -3,7 +3,9 @@ ghost use mathlib.Core.Bool.{true};
 ghost use mathlib.Core.List.{_++_};
 ghost use mathlib.Core.Path.{_≡_};
 ghost use Prim.Native.Nat.{_+_, _≤_};
+ghost use lib.ListN.{length, drop};
 ghost use Rattle.leb128.specs.Numbers.{groups, largest};
+ghost use Rattle.leb128.specs.Decoding.{decoded};
 ghost use Rattle.leb128.specs.Encoding.{encoded};
 ghost use Rattle.request.specs.Requests.{longest, requestBytes, writable};
 ghost use Rattle.request.specs.Reading.{refused, parsed};
@@ -54,6 +56,14 @@ fn refuse(number: u8) -> Parsed
     }
 }
 
+// The number that the bytes from a place on start with.
+fn read_at(bytes: &[u8], at: usize) -> leb128::Number
+    requires { ⌜ at ≤ length (now bytes) ⌝ }
+    ensures { λ r. ⌜ r ≡ decoded groups (drop at (now (bytes .entry))) ⌝ }
+{
+    leb128::read(&bytes[at..])
+}
+
 // The request that the bytes start with. Bytes after it are not looked at.
 pub fn read(bytes: &[u8]) -> Parsed
     ensures { λ r. ⌜ r ≡ parsed (now (bytes .entry)) ⌝ }
@@ -63,12 +73,12 @@ pub fn read(bytes: &[u8]) -> Parsed
         return refuse(field.refusal);
     }
     let after_field = field.used;
-    let channel = leb128::read(&bytes[after_field..]);
+    let channel = read_at(bytes, after_field);
     if channel.refusal != refusal::NONE {
         return refuse(channel.refusal);
     }
     let after_channel = after_field + channel.used;
-    let value = leb128::read(&bytes[after_channel..]);
+    let value = read_at(bytes, after_channel);
     if value.refusal != refusal::NONE {
         return refuse(value.refusal);
     }
