@@ -37,6 +37,10 @@ module _ (l : List ℕ) (some : 0 < length l) (follows : base ≤ getD l 0 0) wh
       let n = length-drop 1 l in
       decoded-more 1 l some follows ∙ rw (decoded-more 0 (drop 1 l) (omega arith) (omega arith))
 
+-- more than one byte is given
+two : {n : ℕ} → (n ≡ 0 → ⊥) → (n ≡ 1 → ⊥) → 1 < n
+two none one = omega (arith, none, one)
+
 refuse-requires : tie.Need-refuse-requires
 refuse-requires c κs = search needs
 
@@ -50,13 +54,13 @@ cast-low : tie.Need-cast-low
 cast-low c = omega (arith, c .shared-slice-known2 .given 0)
 
 returns-2 : tie.Need-returns-2
-returns-2 c = sym (decoded-last 1 (c .before .before .before .before .args .bytes .now) (omega (arith, c .before .before .if1 .left)) (c .if2 .taken))
+returns-2 c = sym (decoded-last 1 (c .before .before .before .before .args .bytes .now) (pos-of-ne-zero (c .before .before .if1 .left)) (c .if2 .taken))
 
 refuse-requires-2 : tie.Need-refuse-requires-2
 refuse-requires-2 c κs = search needs
 
 returns-3 : tie.Need-returns-3
-returns-3 c = let u = c .before .before in c .refuse2 .ensures ∙ sym (missing (u .before .before .before .before .args .bytes .now) (omega arith) (u .if2 .left) (c .before .if3 .taken))
+returns-3 c = let u = c .before .before in c .refuse2 .ensures ∙ sym (missing (u .before .before .before .before .args .bytes .now) (pos-of-ne-zero (u .before .before .if1 .left)) (u .if2 .left) (c .before .if3 .taken))
 
 shared-slice-read-high : tie.Need-shared-slice-read-high
 shared-slice-read-high c = search needs
@@ -68,7 +72,7 @@ refuse-requires-3 : tie.Need-refuse-requires-3
 refuse-requires-3 c κs = search needs
 
 returns-4 : tie.Need-returns-4
-returns-4 c = let u = c .before .before .before .before in c .refuse3 .ensures ∙ sym (zero (u .before .before .before .before .before .args .bytes .now) (omega arith) (u .before .if2 .left) (omega arith) (c .before .if5 .taken))
+returns-4 c = let u = c .before .before .before .before in c .refuse3 .ensures ∙ sym (zero (u .before .before .before .before .before .args .bytes .now) (pos-of-ne-zero (u .before .before .before .if1 .left)) (u .before .if2 .left) (two (u .before .before .before .if1 .left) (u .if3 .left)) (c .before .if5 .taken))
 
 mul-t11 : tie.Need-mul-t11
 mul-t11 c = omega (arith, c .before .before .shared-slice-known3 .given 0)
@@ -77,13 +81,13 @@ add-t12 : tie.Need-add-t12
 add-t12 c = omega (arith, c .before .before .shared-slice-known3 .given 0)
 
 returns-5 : tie.Need-returns-5
-returns-5 c = let u = c .before .before .before in sym (both (u .before .before .before .before .before .args .bytes .now) (omega arith) (u .before .if2 .left) (omega arith) (c .before .if4 .taken) (pos-of-ne-zero (c .if5 .left)))
+returns-5 c = let u = c .before .before .before in sym (both (u .before .before .before .before .before .args .bytes .now) (pos-of-ne-zero (u .before .before .before .if1 .left)) (u .before .if2 .left) (two (u .before .before .before .if1 .left) (u .if3 .left)) (c .before .if4 .taken) (pos-of-ne-zero (c .if5 .left)))
 
 refuse-requires-4 : tie.Need-refuse-requires-4
 refuse-requires-4 c κs = search needs
 
 returns-6 : tie.Need-returns-6
-returns-6 c = let u = c .before .before .before in c .refuse4 .ensures ∙ sym (third (u .before .before .before .before .before .args .bytes .now) (omega arith) (u .before .if2 .left) (omega arith) (c .before .if4 .left))
+returns-6 c = let u = c .before .before .before in c .refuse4 .ensures ∙ sym (third (u .before .before .before .before .before .args .bytes .now) (pos-of-ne-zero (u .before .before .before .if1 .left)) (u .before .if2 .left) (two (u .before .before .before .if1 .left) (u .if3 .left)) (c .before .if4 .left))
 
 pub read-spec : {M : Type 1} → statement M
 read-spec =
