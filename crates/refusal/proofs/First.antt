@@ -1,7 +1,7 @@
--- A list of tests answers 0 exactly when none of them applies. Assumes nothing.
-use mathlib.Core.Bool.{Bool, true}
+-- A list of tests answers 0 exactly when none of them applies, and how an answer is reached test by test. Assumes nothing.
+use mathlib.Core.Bool.{Bool, true, false, cond, not}
 use mathlib.Core.List.{List, [], _∷_}
-use mathlib.Core.Path.{_≡_, refl}
+use mathlib.Core.Path.{_≡_, refl, sym, _∙_, ap}
 use Prim.Native.Nat.{ℕ}
 use native.Mathlib.Omega.{arith}
 use borrow.Author.Tests.{ltb-true}
@@ -23,3 +23,15 @@ first-none (t ∷ tests) a = rw (a .0) (first-none tests (a .1))
 
 pub exact : (tests : List (Bool × ℕ)) → numbered tests ≡ true → Exact tests
 exact tests n = record { accepts = first-none tests; refuses = applies-not tests n }
+
+-- How the answer of a list is reached test by test, as `firstOf` computes: the first one applies, and its number is the answer;
+pub applies : {test : Bool} {number : ℕ} (rest : ℕ) → test ≡ true → number ≡ cond test number rest
+applies rest e = rw e
+
+-- or it does not, and the answer is that of the others.
+pub passes : {test : Bool} (number : ℕ) {answer rest : ℕ} → test ≡ false → answer ≡ rest → answer ≡ cond test number rest
+passes number e r = rw e r
+
+-- what the code asks of its own result holds of what that result is
+pub turned : {result meant told : Bool} → result ≡ meant → not result ≡ told → not meant ≡ told
+turned e t = ap not (sym e) ∙ t
