@@ -1,17 +1,15 @@
 -- Laws of the frame: its length, its bytes and its words.
-use Prim.Native.Nat.{ℕ, zero, suc, _+_, _-_, _*_, _/_, _%_, _<_, _≤_}
-use mathlib.Core.Path.{_≡_, _∙_, ap}
+use Prim.Native.Nat.{ℕ, _-_, _%_, _<_, _≤_}
+use mathlib.Core.Path.{_≡_, _∙_}
 use mathlib.Core.Bool.{true}
-use mathlib.Core.List.{List, _++_}
+use mathlib.Core.List.{List}
 use native.Mathlib.Omega.{arith}
-use borrow.Author.Tests.{ne-eqb, ltb-true, ltb-false}
-use lib.Dec.{ltb}
+use borrow.Author.Tests.{ne-eqb}
 use lib.IntN.{ℤ}
-use lib.ListN.{length, getD, List·getD-append}
-use lib.Seq.{getD-append-add}
+use lib.ListN.{length, getD}
 use Rattle.registers.specs.Addresses.{GPIO, channelCount}
 use Rattle.codes.specs.Codes.{wordCount, inRange, allInRange, wordOf}
-use Rattle.codes.specs.Words.{wordBytes, wordAt, joined}
+use Rattle.codes.specs.Words.{wordAt}
 use Rattle.frame.specs.Frame.{frameLength, statusWord, poweredDown, shown, frameWord, frameOf}
 use Rattle.codes.proofs.Codes.{word-lt, all-at}
 use Rattle.cases.proofs.Cases.{split}
@@ -21,20 +19,6 @@ pub shown-range : (registers : List ℕ) (codes : List ℤ) → allInRange codes
 unfolding shown inRange
 shown-range registers codes r channel =
     split (poweredDown registers channel) (λ t. simp t) (λ t. simp t (all-at codes r (channel - 1)))
-
--- byte i of a list of words is byte i % 3 of word i / 3
-joined-byte : (words : ℕ → ℕ) (count i : ℕ) → i < 3 * count → getD (joined words count) i 0 ≡ getD (wordBytes (words (i / 3))) (i % 3) 0
-unfolding joined
-joined-byte words zero i h = absurd (omega arith)
-joined-byte words (suc m) i h =
-    let l = length-joined words m in
-    split (ltb i (3 * m))
-    (λ t. let low = ltb-true i (3 * m) t in List·getD-append (joined words m) _ 0 i (omega arith) ∙ joined-byte words m i low)
-    (λ t.
-    let high = ltb-false i (3 * m) t in
-    let q : i / 3 ≡ m = omega arith in
-    let e : i ≡ length (joined words m) + i % 3 = omega arith in
-    rw q (ap (λ (j : ℕ). getD (joined words m ++ wordBytes (words m)) j 0) e ∙ getD-append-add (joined words m) _ (i % 3) 0))
 
 module _ (registers : List ℕ) (codes : List ℤ) (p n : ℕ) where
   abbrev frame : List ℕ
@@ -47,10 +31,6 @@ module _ (registers : List ℕ) (codes : List ℤ) (p n : ℕ) where
   pub frame-bytes : (i : ℕ) → getD frame i 0 < 256
   unfolding frameOf
   frame-bytes = joined-lt (frameWord registers codes p n) 9
-
-  pub frame-byte : (i : ℕ) → i < frameLength → getD frame i 0 ≡ getD (wordBytes (frameWord registers codes p n (i / 3))) (i % 3) 0
-  unfolding frameOf
-  frame-byte = joined-byte (frameWord registers codes p n) 9
 
   frame-word : (i : ℕ) → i ≤ channelCount → wordAt frame i ≡ frameWord registers codes p n i % wordCount
   unfolding frameOf

@@ -1,6 +1,7 @@
 // The frame of a sample: nine words of 24 bits, each three bytes (document 01, "Samples and frames").
 ghost use mathlib.Core.Path.{_≡_};
-ghost use Prim.Native.Nat.{_<_, _≤_};
+ghost use Prim.Native.Nat.{_*_, _<_, _≤_};
+ghost use lib.Seq.{sets};
 ghost use Rattle.registers.specs.Addresses.{channelCount};
 ghost use Rattle.codes.specs.Words.{wordBytes};
 ghost use Rattle.frame.specs.Frame.{shown, statusWord, frameWord, frameOf};
@@ -46,16 +47,29 @@ fn word_bytes(registers: [u8; registers::COUNT], codes: &[i32], p: u8, n: u8, i:
     }
 }
 
-// The frame of a sample. A code that is not given counts as 0, and those after the eighth are not looked at.
-// A word is worked out anew for each of its bytes, so that the loop has one store, not three: that keeps its proof short.
+// The frame with the bytes of word i in their place.
+fn put(frame: [u8; LENGTH], i: usize, bytes: [u8; 3]) -> [u8; LENGTH]
+    requires { ⌜ i ≤ channelCount ⌝ }
+    ensures { λ r. ⌜ r ≡ sets frame (3 * i) bytes ⌝ }
+{
+    let mut next = frame;
+    let at = 3 * i;
+    next[at] = bytes[0];
+    next[at + 1] = bytes[1];
+    next[at + 2] = bytes[2];
+    next
+}
+
+// The frame of a sample, word by word. A code that is not given counts as 0, and those after the eighth are not looked at.
 pub fn build(registers: [u8; registers::COUNT], codes: &[i32], p: u8, n: u8) -> [u8; LENGTH]
     ensures { λ r. ⌜ r ≡ frameOf registers (now (codes .entry)) p n ⌝ }
 {
     let mut frame = [0u8; LENGTH];
     let mut i = 0;
-    while i < LENGTH {
-        let bytes = word_bytes(registers, codes, p, n, i / 3);
-        frame[i] = bytes[i % 3];
+    while i <= registers::CHANNELS {
+        let bytes = word_bytes(registers, codes, p, n, i);
+        let next = put(frame, i, bytes);
+        frame = next;
         i += 1;
     }
     frame
