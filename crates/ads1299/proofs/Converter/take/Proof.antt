@@ -30,5 +30,5 @@ take-spec =
     (λ c κs. search needs)
     (λ c κs. search needs)
     (λ c κs. search needs)
-    (λ c. c .load .ensures ∙ loads _ _ _ _ _ _ (c .before .before .before .before .before .with-status .ensures) (c .before .before .before .before .build .ensures) (c .before .if1 .taken))
-    (λ c. keeps _ _ _ _ _ _ (c .before .before .before .before .with-status .ensures) (c .before .before .before .build .ensures) (c .if1 .left)))
+    (λ c. c .load .ensures ∙ loads (c .before .before .before .before .before .before .before .args .self) _ _ _ _ _ (c .before .before .before .before .before .with-status .ensures) (c .before .before .before .before .build .ensures) (c .before .if1 .taken))
+    (λ c. keeps (c .before .before .before .before .before .before .args .self) _ _ _ _ _ (c .before .before .before .before .with-status .ensures) (c .before .before .before .build .ensures) (c .if1 .left)))
