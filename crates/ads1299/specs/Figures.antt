@@ -6,7 +6,7 @@ use mathlib.Core.Path.{_≡_}
 use lib.ListN.{replicate, set}
 use Rattle.registers.specs.Addresses.{CONFIG1}
 use Rattle.ads1299.specs.declared.Converter.{Converter}
-use Rattle.ads1299.specs.State.{withRegisters, withLatest, withContinuous, withStandby}
+use Rattle.ads1299.specs.State.{withRegisters, withOwners, withLatest, withContinuous, withStandby}
 use Rattle.ads1299.specs.PowerUp.{poweredUp}
 use Rattle.ads1299.specs.Run.{outs}
 
@@ -55,3 +55,11 @@ runs =
 -- Every run gives the bytes that its row has.
 abbrev pub RunsHold : Type 0
 RunsHold = map (λ (r : Run). outs (r .from) (r .bytes)) runs ≡ map (λ (r : Run). r .answers) runs
+
+-- For the figures of grants and readings: gives a fresh state in which channels 2 and 3 are party 2's, channel 8 is party 8's, and the others the administrator's
+abbrev pub shared : Converter
+shared = withOwners (poweredUp 0x3E .converter) (0 ∷ 2 ∷ 2 ∷ 0 ∷ 0 ∷ 0 ∷ 0 ∷ 8 ∷ [])
+
+-- gives a state with an owner that is no party
+abbrev pub invalid : Converter
+invalid = withOwners shared (9 ∷ 2 ∷ 2 ∷ 0 ∷ 0 ∷ 0 ∷ 0 ∷ 8 ∷ [])

@@ -3,21 +3,12 @@ use Prim.Native.Nat.{ℕ}
 use mathlib.Core.Path.{_≡_}
 use mathlib.Core.List.{List, [], _∷_, map}
 use Rattle.ads1299.specs.declared.Converter.{Converter}
-use Rattle.ads1299.specs.State.{withOwners}
-use Rattle.ads1299.specs.PowerUp.{poweredUp}
+use Rattle.ads1299.specs.Figures.{shared, invalid}
 use Rattle.grants.specs.Grant.{granted}
 
 -- state, caller, receiver and channel of a grant with its refusal and the owners after it
 pub data Figure : Type 0 where
   grant : Converter → ℕ → ℕ → ℕ → ℕ → List ℕ → Figure
-
--- gives a fresh state in which channels 2 and 3 are party 2's, channel 8 is party 8's, and the others the administrator's
-abbrev pub shared : Converter
-shared = withOwners (poweredUp 0x3E .converter) (0 ∷ 2 ∷ 2 ∷ 0 ∷ 0 ∷ 0 ∷ 0 ∷ 8 ∷ [])
-
--- gives a state with an owner that is no party
-abbrev pub invalid : Converter
-invalid = withOwners shared (9 ∷ 2 ∷ 2 ∷ 0 ∷ 0 ∷ 0 ∷ 0 ∷ 8 ∷ [])
 
 -- gives a figure worked out anew
 abbrev pub workedOut : Figure → Figure

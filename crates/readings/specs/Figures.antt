@@ -6,22 +6,13 @@ use mathlib.Core.List.{List, [], _∷_, _++_, map}
 use lib.IntN.{pos, negℤ}
 use lib.ListN.{replicate}
 use Rattle.ads1299.specs.declared.Converter.{Converter}
-use Rattle.ads1299.specs.State.{withOwners}
-use Rattle.ads1299.specs.PowerUp.{poweredUp}
+use Rattle.ads1299.specs.Figures.{shared, invalid}
 use Rattle.readings.specs.declared.Reading.{Reading}
 use Rattle.readings.specs.Reading.{reading, channelReading, partBytes}
 
 -- state, party, channel and frame of a reading with its answer and its part
 pub data Figure : Type 0 where
   read : Converter → ℕ → ℕ → List ℕ → Reading → List ℕ → Figure
-
--- gives a fresh state in which channels 2 and 3 are party 2's, channel 8 is party 8's, and the others the administrator's
-abbrev pub shared : Converter
-shared = withOwners (poweredUp 0x3E .converter) (0 ∷ 2 ∷ 2 ∷ 0 ∷ 0 ∷ 0 ∷ 0 ∷ 8 ∷ [])
-
--- gives a state with an owner that is no party
-abbrev pub invalid : Converter
-invalid = withOwners shared (9 ∷ 2 ∷ 2 ∷ 0 ∷ 0 ∷ 0 ∷ 0 ∷ 8 ∷ [])
 
 -- gives a frame with P 82h, N 04h, and FFh in every channel's bytes but those of channel 8
 abbrev pub full : List ℕ
