@@ -1,4 +1,4 @@
--- A state that passes 13 goes on to pass it. Assumes nothing.
+-- A state that an accepted power-up gives passes 13, and a state that passes it goes on to pass it. Assumes nothing.
 use Prim.Native.Nat.{ℕ, zero, suc, _+_, _%_}
 use mathlib.Core.Path.{_≡_, refl}
 use mathlib.Core.Bool.{Bool, true, false, cond, not, false≢true}
@@ -11,33 +11,41 @@ use lib.ListN.{getD, set}
 use lib.Seq.{getD-set-other}
 use lib.Bits.{bitAnd, and-zero-r, and-mask}
 use Rattle.bits.specs.Fields.{masked}
-use Rattle.cases.proofs.Cases.{either}
+use Rattle.cases.proofs.Cases.{split, either}
 use Rattle.refusal.specs.First.{accepted}
-use Rattle.registers.specs.Addresses.{ID, LOFF_STATP, LOFF_STATN}
+use Rattle.ads1299_registers.specs.Addresses.{ID, LOFF_STATP, LOFF_STATN}
 use Rattle.ads1299.specs.declared.Converter.{Converter}
-use Rattle.protocol.specs.declared.Transfer.{Transfer}
-use Rattle.protocol.specs.declared.Direction.{Direction}
-use Rattle.protocol.specs.declared.Direction.the-variants.{Read, Write}
-use Rattle.protocol.specs.declared.Phase.{Phase}
-use Rattle.protocol.specs.declared.Phase.the-variants.{Waiting, Held, Counting}
-use Rattle.commands.specs.declared.Command.{Command}
-use Rattle.commands.specs.declared.Command.the-variants.{Wakeup, Standby, Reset, Start, Stop, Rdatac, Sdatac, Rdata, Rreg, Wreg, Unlisted}
-use Rattle.ads1299.specs.PowerUp.{validId, restored}
-use Rattle.ads1299.specs.Registers.{powerUp, masks, written}
+use Rattle.ads1299_serial.specs.declared.Transfer.{Transfer}
+use Rattle.ads1299_serial.specs.declared.Direction.{Direction}
+use Rattle.ads1299_serial.specs.declared.Direction.the-variants.{Read, Write}
+use Rattle.ads1299_serial.specs.declared.Phase.{Phase}
+use Rattle.ads1299_serial.specs.declared.Phase.the-variants.{Waiting, Held, Counting}
+use Rattle.ads1299_commands.specs.declared.Command.{Command}
+use Rattle.ads1299_commands.specs.declared.Command.the-variants.{Wakeup, Standby, Reset, Start, Stop, Rdatac, Sdatac, Rdata, Rreg, Wreg, Unlisted}
+use Rattle.ads1299.specs.PowerUp.{validId, restored, poweredUp}
+use Rattle.ads1299_registers.specs.Table.{powerUp, masks}
+use Rattle.ads1299.specs.Registers.{written}
 use Rattle.ads1299.specs.declared.Moved.{Moved}
 use Rattle.ads1299.specs.State.{withPhase}
-use Rattle.commands.specs.Commands.{decoded, acts}
-use Rattle.protocol.specs.Output.{validPlace}
-use Rattle.commands.proofs.Commands.{lowAddress, decoded-low}
-use Rattle.protocol.proofs.Transfers.{begun-valid, remainder-valid}
-use Rattle.protocol.proofs.OutputPlace.{advanced-valid}
+use Rattle.ads1299_commands.specs.Commands.{decoded, acts}
+use Rattle.ads1299_serial.specs.Output.{validPlace}
+use Rattle.ads1299_commands.proofs.Commands.{lowAddress, decoded-low}
+use Rattle.ads1299_serial.proofs.Transfers.{begun-valid, remainder-valid}
+use Rattle.ads1299_serial.proofs.OutputPlace.{advanced-valid}
 use Rattle.ads1299.specs.Output.{readBack, emptied, loaded, ignored}
 use Rattle.ads1299.specs.Validity.{interruptible, valid}
 use Rattle.ads1299.specs.Step.{effect, commanded, countedIn, counted, followedIn, followed, stepped}
 use Rattle.ads1299.specs.Deselect.{deselected}
 use Rattle.ads1299.specs.Sample.{sampleRefusal, withStatus, framed, taken, sampled}
-use Rattle.ads1299.specs.Claims.{StaysValid}
+use Rattle.ads1299.specs.Claims.{PowersUpValid, StaysValid}
 use Rattle.ads1299.proofs.ValidState.{Parts, parts, whole}
+
+pub powers-up-valid : PowersUpValid
+unfolding poweredUp restored powerUp
+powers-up-valid id e =
+    split (validId id)
+    (λ v. rw v (whole _ (record { id = v; place = refl; phase = refl; owners = refl })))
+    (λ v. absurd (omega (arith, rw v at e)))
 
 -- a register command acts awake, in command mode
 opens : (standby continuous : Bool) → cond standby false (not continuous) ≡ true → (standby ≡ false) × (continuous ≡ false)
@@ -118,7 +126,7 @@ pub next-is : (s : Converter) (b : ℕ) → valid s ≡ true → stepped s b .ne
 unfolding stepped
 next-is s b v = rw v
 
-pub stays-valid : (s : Converter) → valid s ≡ true → StaysValid s
+pub stays-valid : StaysValid
 unfolding deselected sampled
 stays-valid s v =
     let p = parts s v in

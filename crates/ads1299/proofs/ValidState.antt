@@ -3,14 +3,12 @@ use mathlib.Core.Path.{_≡_}
 use mathlib.Core.Bool.{true, _&&_}
 use lib.ListN.{getD}
 use Rattle.cases.proofs.Cases.{and-both}
-use Rattle.registers.specs.Addresses.{ID}
+use Rattle.ads1299_registers.specs.Addresses.{ID}
 use Rattle.ads1299.specs.declared.Converter.{Converter}
-use Rattle.protocol.specs.declared.Transfer.{Transfer}
-use Rattle.protocol.specs.declared.Phase.the-variants.{Counting}
 use Rattle.parties.specs.Owners.{knownOwners}
 use Rattle.ads1299.specs.PowerUp.{validId}
-use Rattle.protocol.specs.Transfers.{countable, validPhase}
-use Rattle.protocol.specs.Output.{validPlace}
+use Rattle.ads1299_serial.specs.Transfers.{validPhase}
+use Rattle.ads1299_serial.specs.Output.{validPlace}
 use Rattle.ads1299.specs.Validity.{interruptible, validConverter, valid}
 
 pub record Parts (s : Converter) : Type 0 where
@@ -33,7 +31,3 @@ parts s e =
 pub whole : (s : Converter) → Parts s → valid s ≡ true
 unfolding valid validConverter
 whole s p = rw (p .id, p .place, p .phase, p .owners)
-
--- a state that passes 13 and counts
-pub counting-bounds : (s : Converter) (t : Transfer) → valid s ≡ true → s .phase ≡ Counting t → countable t ≡ true
-counting-bounds s t v e = and-both (interruptible (s .continuous) (s .standby) (s .output)) (countable t) (rw e at (parts s v .phase)) .1

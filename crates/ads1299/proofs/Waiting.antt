@@ -1,28 +1,28 @@
 -- Zero bytes lead back to waiting, and a select rise of an idle converter changes nothing. Assumes nothing.
 use Prim.Native.Nat.{ℕ, zero, suc, _+_, _≤_}
 use mathlib.Core.Path.{_≡_, refl, sym, _∙_, ap}
-use mathlib.Core.Bool.{Bool, true}
+use mathlib.Core.Bool.{Bool, true, _&&_}
 use native.Mathlib.Omega.{arith}
-use lib.Dec.{leb}
+use lib.Dec.{ltb}
 use lib.ListN.{replicate}
 use Rattle.cases.proofs.Cases.{split, either, and-both}
 use Rattle.refusal.specs.Numbers.{none}
 use Rattle.ads1299.specs.declared.Converter.{Converter}
 use Rattle.ads1299.specs.declared.Moved.{Moved}
-use Rattle.protocol.specs.declared.Transfer.{Transfer}
-use Rattle.protocol.specs.declared.Direction.{Direction}
-use Rattle.protocol.specs.declared.Direction.the-variants.{Read, Write}
-use Rattle.protocol.specs.declared.Output.{Output}
-use Rattle.protocol.specs.declared.Phase.{Phase}
-use Rattle.protocol.specs.declared.Phase.the-variants.{Waiting, Held, Counting}
-use Rattle.commands.specs.Commands.{registerCommand, decoded, acts}
+use Rattle.ads1299_serial.specs.declared.Transfer.{Transfer}
+use Rattle.ads1299_serial.specs.declared.Direction.{Direction}
+use Rattle.ads1299_serial.specs.declared.Direction.the-variants.{Read, Write}
+use Rattle.ads1299_serial.specs.declared.Output.{Output}
+use Rattle.ads1299_serial.specs.declared.Phase.{Phase}
+use Rattle.ads1299_serial.specs.declared.Phase.the-variants.{Waiting, Held, Counting}
+use Rattle.ads1299_commands.specs.Commands.{registerCommand, decoded, acts}
 use Rattle.ads1299.specs.Output.{emptied, ignored}
-use Rattle.protocol.specs.Transfers.{countable, validPhase, begun, remainder}
-use Rattle.protocol.proofs.Transfers.{bounds}
+use Rattle.ads1299_serial.specs.Transfers.{countable, validPhase, begun, remainder}
+use Rattle.ads1299_serial.proofs.Transfers.{bounds}
 use Rattle.ads1299.specs.Validity.{valid}
-use Rattle.ads1299.specs.State.{withOutput, withPhase}
+use Rattle.ads1299.specs.State.{withOutput, withPhase, moved}
 use Rattle.ads1299.specs.Step.{commanded, countedIn, counted, followedIn, followed}
-use Rattle.ads1299.specs.Deselect.{moved, deselected}
+use Rattle.ads1299.specs.Deselect.{deselected}
 use Rattle.ads1299.specs.Run.{after}
 use Rattle.ads1299.specs.Claims.{ReachesWaiting, IdleDeselect}
 use Rattle.ads1299.proofs.ValidState.{parts, whole}
@@ -36,7 +36,7 @@ left (Counting t) = t .remaining
 
 remainder-left : (t : Transfer) (n : ℕ) → t .remaining ≤ suc n → left (remainder t) ≤ n
 unfolding remainder
-remainder-left t n h = either (λ (p : Phase). left p ≤ n) (leb (t .remaining) 1) (λ u. omega arith) (λ u. omega arith)
+remainder-left t n h = either (λ (p : Phase). left p ≤ n) (ltb 1 (t .remaining) && countable t) (λ u. omega arith) (λ u. omega arith)
 
 counted-left : (d : Direction) (s : Converter) (t : Transfer) (n : ℕ) → t .remaining ≤ suc n → left (countedIn d s t 0 .phase) ≤ n
 counted-left Read s t n h = remainder-left t n h
@@ -70,7 +70,7 @@ few Waiting may f = omega arith
 few (Held t) may f = omega arith
 few (Counting t) may f = bounds t (and-both may (countable t) f .1) .few
 
-pub reaches-waiting : (s : Converter) → valid s ≡ true → ReachesWaiting s
+pub reaches-waiting : ReachesWaiting
 reaches-waiting s v =
     record {
       count = left (s .phase);
@@ -78,7 +78,7 @@ reaches-waiting s v =
       waits = λ more. run (left (s .phase) + more) s v (omega arith);
     }
 
-pub idle-deselect : (s : Converter) → valid s ≡ true → IdleDeselect s
+pub idle-deselect : IdleDeselect
 unfolding deselected emptied
 idle-deselect s v w e =
     let with : Output → Phase → Moved = λ o p. moved none (withPhase (withOutput s o) p) in

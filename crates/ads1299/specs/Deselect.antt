@@ -1,17 +1,12 @@
 -- The select line rises (document 01's words): a command half given ends, and the output is empty.
-use Prim.Native.Nat.{ℕ}
 use mathlib.Core.Bool.{cond}
 use Rattle.refusal.specs.Numbers.{none, invalidState}
 use Rattle.ads1299.specs.declared.Converter.{Converter}
 use Rattle.ads1299.specs.declared.Moved.{Moved}
-use Rattle.protocol.specs.declared.Phase.the-variants.{Waiting}
-use Rattle.ads1299.specs.State.{withPhase}
+use Rattle.ads1299_serial.specs.declared.Phase.the-variants.{Waiting}
+use Rattle.ads1299.specs.State.{withPhase, moved}
 use Rattle.ads1299.specs.Output.{emptied}
 use Rattle.ads1299.specs.Validity.{valid}
-
--- gives an answer that is a refusal number and a state
-abbrev pub moved : ℕ → Converter → Moved
-moved refusal s = record { refusal = refusal; next = s }
 
 -- gives the answer to a select rise: registers already written stay, and it is refused only by 13
 unfoldable pub deselected : Converter → Moved

@@ -1,23 +1,22 @@
 -- Runs of bytes worked by hand from document 01, in one table.
 use Prim.Native.Nat.{ℕ}
 use mathlib.Core.Bool.{true, false}
-use mathlib.Core.List.{List, [], _∷_, _++_, map}
-use mathlib.Core.Path.{_≡_}
+use mathlib.Core.List.{List, [], _∷_, _++_}
 use lib.ListN.{replicate, set}
-use Rattle.registers.specs.Addresses.{CONFIG1}
+use Rattle.cases.specs.Figures.{Hold}
+use Rattle.ads1299_registers.specs.Addresses.{CONFIG1}
 use Rattle.ads1299.specs.declared.Converter.{Converter}
 use Rattle.ads1299.specs.State.{withRegisters, withOwners, withLatest, withContinuous, withStandby}
 use Rattle.ads1299.specs.PowerUp.{poweredUp}
 use Rattle.ads1299.specs.Run.{outs}
 
--- A run: the state, the bytes that go in and the bytes that come out.
-pub record Run : Type 0 where
-  pub from : Converter
-  pub bytes : List ℕ
-  pub answers : List ℕ
+-- the state, the bytes that go in and the bytes that come out
+pub data Figure : Type 0 where
+  run : Converter → List ℕ → List ℕ → Figure
 
-abbrev run : Converter → List ℕ → List ℕ → Run
-run from bytes answers = record { from = from; bytes = bytes; answers = answers }
+-- gives a figure worked out anew
+abbrev pub workedOut : Figure → Figure
+workedOut (run s bytes out) = run s bytes (outs s bytes)
 
 -- gives a frame that tells its places
 abbrev counting : List ℕ
@@ -35,10 +34,10 @@ again = withRegisters ready (set (ready .registers) CONFIG1 0xD6)
 abbrev readConfig1 : List ℕ
 readConfig1 = 0x21 ∷ 0x00 ∷ 0x00 ∷ []
 
--- the rows: what power-up leaves; no wrap above 17h; a write through the mask; bytes of a read not decoded; a dropped command
+-- gives the table: what power-up leaves; no wrap above 17h; a write through the mask; bytes of a read not decoded; a dropped command
 -- consumed; a frame, then nothing, or the frame again; an acting command, and an ignored one, in the middle of a frame; standby
-unfoldable pub runs : List Run
-runs =
+abbrev pub figures : List Figure
+figures =
     run ready (0x20 ∷ 0x17 ∷ replicate 24 0)
     (0 ∷ 0 ∷ 0x3E ∷ 0x96 ∷ 0xC0 ∷ 0x60 ∷ 0x00 ∷ replicate 8 0x60 ++ replicate 7 0x00 ++ (0x0F ∷ 0x00 ∷ 0x00 ∷ 0x00 ∷ []))
     ∷ run ready (0x57 ∷ 0x02 ∷ 0xFF ∷ 0xFF ∷ 0xFF ∷ 0x37 ∷ 0x01 ∷ 0x00 ∷ 0x00 ∷ 0x20 ∷ 0x00 ∷ 0x00 ∷ []) (replicate 7 0 ++ (0x0A ∷ 0 ∷ 0 ∷ 0 ∷ 0x3E ∷ []))
@@ -52,9 +51,9 @@ runs =
     ∷ run (withStandby ready true) (0x06 ∷ 0x12 ∷ 0x02 ∷ 0x12 ∷ 0x00 ∷ []) (0 ∷ 0 ∷ 0 ∷ 0 ∷ 1 ∷ [])
     ∷ []
 
--- Every run gives the bytes that its row has.
-abbrev pub RunsHold : Type 0
-RunsHold = map (λ (r : Run). outs (r .from) (r .bytes)) runs ≡ map (λ (r : Run). r .answers) runs
+-- Every figure of the table is what the definitions give.
+abbrev pub FiguresHold : Type 0
+FiguresHold = Hold workedOut figures
 
 -- For the figures of grants and readings: gives a fresh state in which channels 2 and 3 are party 2's, channel 8 is party 8's, and the others the administrator's
 abbrev pub shared : Converter

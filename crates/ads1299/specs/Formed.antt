@@ -3,8 +3,8 @@ use Prim.Native.Nat.{ℕ, _<_}
 use mathlib.Core.List.{List}
 use mathlib.Core.Path.{_≡_}
 use lib.ListN.{length, getD}
-use Rattle.registers.specs.Addresses.{registerCount, channelCount}
-use Rattle.frame.specs.Frame.{frameLength}
+use Rattle.ads1299_registers.specs.Addresses.{registerCount, channelCount}
+use Rattle.ads1299_frame.specs.Frame.{frameLength}
 use Rattle.ads1299.specs.declared.Converter.{Converter}
 
 -- A list is an array of n bytes.

@@ -4,9 +4,9 @@ use mathlib.Core.Bool.{Bool}
 use mathlib.Core.List.{List}
 use lib.ListN.{getD}
 use Rattle.bits.specs.Fields.{bit}
-use Rattle.registers.specs.Addresses.{CONFIG1}
-use Rattle.protocol.specs.declared.Output.the-variants.{Empty, At}
-use Rattle.protocol.specs.Output.{advanced}
+use Rattle.ads1299_registers.specs.Addresses.{CONFIG1}
+use Rattle.ads1299_serial.specs.declared.Output.the-variants.{Empty, At}
+use Rattle.ads1299_serial.specs.Output.{advanced}
 use Rattle.ads1299.specs.declared.Converter.{Converter}
 use Rattle.ads1299.specs.State.{withOutput, withShifting}
 

@@ -5,14 +5,14 @@ use mathlib.Core.List.{List}
 use lib.Dec.{eqb}
 use lib.ListN.{replicate, set}
 use Rattle.refusal.specs.Numbers.{none, invalidState}
-use Rattle.registers.specs.Addresses.{ID, channelCount}
-use Rattle.frame.specs.Frame.{frameLength}
+use Rattle.ads1299_registers.specs.Addresses.{ID, channelCount}
+use Rattle.ads1299_frame.specs.Frame.{frameLength}
 use Rattle.ads1299.specs.declared.Converter.{Converter}
-use Rattle.protocol.specs.declared.Output.the-variants.{Empty}
-use Rattle.protocol.specs.declared.Phase.the-variants.{Waiting}
+use Rattle.ads1299_serial.specs.declared.Output.the-variants.{Empty}
+use Rattle.ads1299_serial.specs.declared.Phase.the-variants.{Waiting}
 use Rattle.ads1299.specs.declared.PoweredUp.{PoweredUp}
 use Rattle.parties.specs.Parties.{admin}
-use Rattle.ads1299.specs.Registers.{powerUp}
+use Rattle.ads1299_registers.specs.Table.{powerUp}
 use Rattle.ads1299.specs.State.{state}
 
 -- an ADS1299's ID: the low five bits are fixed, the top three free

@@ -7,15 +7,14 @@ use lib.IntN.{ℤ}
 use lib.ListN.{length, set}
 use Rattle.refusal.specs.Numbers.{none, invalidState, notConverting, badSample}
 use Rattle.refusal.specs.First.{firstOf, accepted}
-use Rattle.registers.specs.Addresses.{channelCount, LOFF_STATP, LOFF_STATN}
-use Rattle.codes.specs.Codes.{allInRange}
-use Rattle.frame.specs.Frame.{frameOf}
+use Rattle.ads1299_registers.specs.Addresses.{channelCount, LOFF_STATP, LOFF_STATN}
+use Rattle.ads1299_codes.specs.Codes.{allInRange}
+use Rattle.ads1299_frame.specs.Frame.{frameOf}
 use Rattle.ads1299.specs.declared.Converter.{Converter}
 use Rattle.ads1299.specs.declared.Moved.{Moved}
-use Rattle.ads1299.specs.State.{withRegisters, withLatest}
+use Rattle.ads1299.specs.State.{withRegisters, withLatest, moved}
 use Rattle.ads1299.specs.Output.{loaded}
 use Rattle.ads1299.specs.Validity.{valid}
-use Rattle.ads1299.specs.Deselect.{moved}
 
 -- the converter takes samples: it is converting and awake
 abbrev pub running : Converter → Bool

@@ -1,10 +1,11 @@
--- The state with one part changed and all else as it is.
+-- The state with one part changed and all else as it is, and the answer that is a number and a state.
 use Prim.Native.Nat.{ℕ}
 use mathlib.Core.Bool.{Bool}
 use mathlib.Core.List.{List}
 use Rattle.ads1299.specs.declared.Converter.{Converter}
-use Rattle.protocol.specs.declared.Output.{Output}
-use Rattle.protocol.specs.declared.Phase.{Phase}
+use Rattle.ads1299.specs.declared.Moved.{Moved}
+use Rattle.ads1299_serial.specs.declared.Output.{Output}
+use Rattle.ads1299_serial.specs.declared.Phase.{Phase}
 
 -- gives a state from all its parts
 abbrev pub state : List ℕ → List ℕ → List ℕ → Output → Bool → Bool → Bool → List ℕ → Phase → Converter
@@ -47,3 +48,7 @@ withShifting s x = state (s .registers) (s .owners) (s .latest) (s .output) (s .
 
 abbrev pub withPhase : Converter → Phase → Converter
 withPhase s x = state (s .registers) (s .owners) (s .latest) (s .output) (s .continuous) (s .standby) (s .converting) (s .shifting) x
+
+-- gives an answer that is a refusal number and a state
+abbrev pub moved : ℕ → Converter → Moved
+moved refusal s = record { refusal = refusal; next = s }

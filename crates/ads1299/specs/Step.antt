@@ -3,22 +3,22 @@ use Prim.Native.Nat.{ℕ}
 use mathlib.Core.Bool.{true, false, cond}
 use lib.ListN.{getD}
 use Rattle.refusal.specs.Numbers.{none, invalidState}
-use Rattle.registers.specs.Addresses.{ID}
+use Rattle.ads1299_registers.specs.Addresses.{ID}
 use Rattle.ads1299.specs.declared.Converter.{Converter}
-use Rattle.protocol.specs.declared.Transfer.{Transfer}
+use Rattle.ads1299_serial.specs.declared.Transfer.{Transfer}
 use Rattle.ads1299.specs.declared.Stepped.{Stepped}
-use Rattle.protocol.specs.declared.Direction.{Direction}
-use Rattle.protocol.specs.declared.Direction.the-variants.{Read, Write}
-use Rattle.protocol.specs.declared.Phase.{Phase}
-use Rattle.protocol.specs.declared.Phase.the-variants.{Waiting, Held, Counting}
-use Rattle.commands.specs.declared.Command.{Command}
-use Rattle.commands.specs.declared.Command.the-variants.{Wakeup, Standby, Reset, Start, Stop, Rdatac, Sdatac, Rdata, Rreg, Wreg, Unlisted}
+use Rattle.ads1299_serial.specs.declared.Direction.{Direction}
+use Rattle.ads1299_serial.specs.declared.Direction.the-variants.{Read, Write}
+use Rattle.ads1299_serial.specs.declared.Phase.{Phase}
+use Rattle.ads1299_serial.specs.declared.Phase.the-variants.{Waiting, Held, Counting}
+use Rattle.ads1299_commands.specs.declared.Command.{Command}
+use Rattle.ads1299_commands.specs.declared.Command.the-variants.{Wakeup, Standby, Reset, Start, Stop, Rdatac, Sdatac, Rdata, Rreg, Wreg, Unlisted}
 use Rattle.ads1299.specs.Registers.{registerAt, written}
 use Rattle.ads1299.specs.State.{withRegisters, withContinuous, withStandby, withConverting, withPhase}
 use Rattle.ads1299.specs.PowerUp.{restored}
-use Rattle.commands.specs.Commands.{decoded, acts}
-use Rattle.protocol.specs.Transfers.{transfer, begun, remainder}
-use Rattle.protocol.specs.Output.{pending}
+use Rattle.ads1299_commands.specs.Commands.{decoded, acts}
+use Rattle.ads1299_serial.specs.Transfers.{transfer, begun, remainder}
+use Rattle.ads1299_serial.specs.Output.{pending}
 use Rattle.ads1299.specs.Output.{emptied, loaded, ignored}
 use Rattle.ads1299.specs.Validity.{valid}
 

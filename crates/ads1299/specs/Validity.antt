@@ -1,10 +1,10 @@
 -- Refusal 13: whether a converter can be in the state that it is said to be in.
 use mathlib.Core.Bool.{Bool, not, _&&_}
 use lib.ListN.{getD}
-use Rattle.registers.specs.Addresses.{ID}
-use Rattle.protocol.specs.Transfers.{validPhase}
-use Rattle.protocol.specs.Output.{isEmpty, validPlace}
-use Rattle.protocol.specs.declared.Output.{Output}
+use Rattle.ads1299_registers.specs.Addresses.{ID}
+use Rattle.ads1299_serial.specs.Transfers.{validPhase}
+use Rattle.ads1299_serial.specs.Output.{isEmpty, validPlace}
+use Rattle.ads1299_serial.specs.declared.Output.{Output}
 use Rattle.ads1299.specs.declared.Converter.{Converter}
 use Rattle.parties.specs.Owners.{knownOwners}
 use Rattle.ads1299.specs.PowerUp.{validId}

@@ -5,19 +5,19 @@ mod sample;
 mod step;
 mod validity;
 
-use protocol::Output;
-use protocol::Phase;
+use ads1299_serial::Output;
+use ads1299_serial::Phase;
 
 // The order of the fields keeps each array at a multiple of 16 bytes.
 pub struct Converter {
-    pub registers: [u8; registers::COUNT],
-    pub owners: [u8; registers::CHANNELS],
-    pub latest: [u8; frame::LENGTH],
+    pub registers: [u8; ads1299_registers::COUNT],
+    pub owners: [u8; ads1299_registers::CHANNELS],
+    pub latest: [u8; ads1299_frame::LENGTH],
     pub output: Output,
     pub continuous: bool,
     pub standby: bool,
     pub converting: bool,
-    pub shifting: [u8; frame::LENGTH],
+    pub shifting: [u8; ads1299_frame::LENGTH],
     pub phase: Phase,
 }
 

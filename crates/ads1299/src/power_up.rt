@@ -3,64 +3,64 @@ ghost use mathlib.Core.Path.{_≡_};
 ghost use Rattle.ads1299.specs.PowerUp.{validId, restored, poweredUp};
 use crate::Converter;
 use crate::PoweredUp;
-use protocol::Output;
-use protocol::Phase;
+use ads1299_serial::Output;
+use ads1299_serial::Phase;
 
 impl Converter {
     // The registers' power-up values; the ID's is given.
-    pub const POWER_UP: [u8; registers::COUNT] = [
-        0x00,
-        0x96,
-        0xC0,
-        0x60,
-        0x00,
-        0x60,
-        0x60,
-        0x60,
-        0x60,
-        0x60,
-        0x60,
-        0x60,
-        0x60,
-        0x00,
-        0x00,
-        0x00,
-        0x00,
-        0x00,
-        0x00,
-        0x00,
-        0x0F,
-        0x00,
-        0x00,
-        0x00,
+    pub const POWER_UP: [u8; ads1299_registers::COUNT] = [
+        0x00, // ID
+        0x96, // CONFIG1
+        0xC0, // CONFIG2
+        0x60, // CONFIG3
+        0x00, // LOFF
+        0x60, // CH1SET
+        0x60, // CH2SET
+        0x60, // CH3SET
+        0x60, // CH4SET
+        0x60, // CH5SET
+        0x60, // CH6SET
+        0x60, // CH7SET
+        0x60, // CH8SET
+        0x00, // BIAS_SENSP
+        0x00, // BIAS_SENSN
+        0x00, // LOFF_SENSP
+        0x00, // LOFF_SENSN
+        0x00, // LOFF_FLIP
+        0x00, // LOFF_STATP
+        0x00, // LOFF_STATN
+        0x0F, // GPIO
+        0x00, // MISC1
+        0x00, // MISC2
+        0x00, // CONFIG4
     ];
 
     // The bits that a write changes.
-    pub const MASK: [u8; registers::COUNT] = [
-        0x00,
-        0x67,
-        0x17,
-        0x9E,
-        0xEF,
-        0xFF,
-        0xFF,
-        0xFF,
-        0xFF,
-        0xFF,
-        0xFF,
-        0xFF,
-        0xFF,
-        0xFF,
-        0xFF,
-        0xFF,
-        0xFF,
-        0xFF,
-        0x00,
-        0x00,
-        0xFF,
-        0x20,
-        0x00,
-        0x0A,
+    pub const MASK: [u8; ads1299_registers::COUNT] = [
+        0x00, // ID
+        0x67, // CONFIG1
+        0x17, // CONFIG2
+        0x9E, // CONFIG3
+        0xEF, // LOFF
+        0xFF, // CH1SET
+        0xFF, // CH2SET
+        0xFF, // CH3SET
+        0xFF, // CH4SET
+        0xFF, // CH5SET
+        0xFF, // CH6SET
+        0xFF, // CH7SET
+        0xFF, // CH8SET
+        0xFF, // BIAS_SENSP
+        0xFF, // BIAS_SENSN
+        0xFF, // LOFF_SENSP
+        0xFF, // LOFF_SENSN
+        0xFF, // LOFF_FLIP
+        0x00, // LOFF_STATP
+        0x00, // LOFF_STATN
+        0xFF, // GPIO
+        0x20, // MISC1
+        0x00, // MISC2
+        0x0A, // CONFIG4
     ];
 
     // Whether an ADS1299 can have this ID: its low five bits are fixed, the top three free.
@@ -71,20 +71,20 @@ impl Converter {
     }
 
     // The power-up state with an ID and owners: what RESET comes back to as well.
-    pub(crate) fn restore(id: u8, owners: [u8; registers::CHANNELS]) -> Converter
+    pub(crate) fn restore(id: u8, owners: [u8; ads1299_registers::CHANNELS]) -> Converter
         ensures { λ r. ⌜ r ≡ restored id owners ⌝ }
     {
         let mut registers = Self::POWER_UP;
-        registers[registers::ID] = id;
+        registers[ads1299_registers::ID] = id;
         Converter {
             registers,
             owners,
-            latest: [0; frame::LENGTH],
+            latest: [0; ads1299_frame::LENGTH],
             output: Output::Empty,
             continuous: true,
             standby: false,
             converting: false,
-            shifting: [0; frame::LENGTH],
+            shifting: [0; ads1299_frame::LENGTH],
             phase: Phase::Waiting,
         }
     }
@@ -92,7 +92,7 @@ impl Converter {
     pub fn power_up(id: u8) -> PoweredUp
         ensures { λ r. ⌜ r ≡ poweredUp id ⌝ }
     {
-        let owners = [parties::ADMIN; registers::CHANNELS];
+        let owners = [parties::ADMIN; ads1299_registers::CHANNELS];
         if Self::is_valid_id(id) {
             let converter = Self::restore(id, owners);
             PoweredUp {

@@ -1,29 +1,26 @@
 // The byte step and the select line.
 ghost use mathlib.Core.Path.{_≡_};
-ghost use mathlib.Core.Bool.{true};
-ghost use Rattle.protocol.specs.Transfers.{countable, remainder};
 ghost use Rattle.ads1299.specs.Registers.{registerAt, written};
 ghost use Rattle.ads1299.specs.State.{withOutput, withPhase, withStandby, withConverting, withContinuous};
 ghost use Rattle.ads1299.specs.Output.{loaded, ignored};
-ghost use Rattle.ads1299.specs.Validity.{valid};
 ghost use Rattle.ads1299.specs.Step.{held, effect, commanded, counted, outgoing, followed, stepped};
 ghost use Rattle.ads1299.specs.Deselect.{deselected};
 use crate::Converter;
 use crate::Moved;
 use crate::Stepped;
-use commands::Command;
-use protocol::Direction;
-use protocol::Output;
-use protocol::Phase;
-use protocol::Transfer;
+use ads1299_commands::Command;
+use ads1299_serial::Direction;
+use ads1299_serial::Output;
+use ads1299_serial::Phase;
+use ads1299_serial::Transfer;
 
 impl Converter {
     // What stands at an address: 0 above the last register.
-    fn register(registers: [u8; registers::COUNT], address: u8) -> u8
+    fn register(registers: [u8; ads1299_registers::COUNT], address: u8) -> u8
         ensures { λ r. ⌜ r ≡ registerAt registers address ⌝ }
     {
         let at = address as usize;
-        if at < registers::COUNT {
+        if at < ads1299_registers::COUNT {
             registers[at]
         } else {
             0
@@ -31,14 +28,18 @@ impl Converter {
     }
 
     // The registers after a write through the mask: dropped above the last register.
-    fn write(registers: [u8; registers::COUNT], address: u8, byte: u8) -> [u8; registers::COUNT]
+    fn write(
+        registers: [u8; ads1299_registers::COUNT],
+        address: u8,
+        byte: u8,
+    ) -> [u8; ads1299_registers::COUNT]
         ensures { λ r. ⌜ r ≡ written registers address byte ⌝ }
     {
         let mut next = registers;
-        let at = address as usize;
-        if at < registers::COUNT {
+        let to = address as usize;
+        if to < ads1299_registers::COUNT {
             let mask = Self::MASK;
-            next[at] = bits::write_masked(next[at], mask[at], byte);
+            next[to] = bits::write_masked(next[to], mask[to], byte);
         }
         next
     }
@@ -61,18 +62,20 @@ impl Converter {
     {
         let output = self.output;
         let registers = self.registers;
-        let again = bits::is_set(registers[registers::CONFIG1], 6);
-        self.with_output(protocol::advance(output, again))
+        let again = bits::is_set(registers[ads1299_registers::CONFIG1], 6);
+        self.with_output(ads1299_serial::advance(output, again))
     }
 
+    // The first byte of a register read or write: the command is held, and nothing is transferred yet.
     fn hold(self, direction: Direction, address: u8) -> Converter
         ensures { λ r. ⌜ r ≡ held self direction address ⌝ }
     {
-        self.with_phase(Phase::Held(Transfer {
+        let phase = Phase::Held(Transfer {
             direction,
             address,
             remaining: 0,
-        }))
+        });
+        self.with_phase(phase)
     }
 
     fn with_standby(mut self, standby: bool) -> Converter
@@ -101,7 +104,7 @@ impl Converter {
     {
         let registers = self.registers;
         let owners = self.owners;
-        Self::restore(registers[registers::ID], owners)
+        Self::restore(registers[ads1299_registers::ID], owners)
     }
 
     // The latest frame goes out, from its first byte.
@@ -138,31 +141,14 @@ impl Converter {
     fn command(self, command: Command) -> Converter
         ensures { λ r. ⌜ r ≡ commanded self command ⌝ }
     {
-        if commands::does_act(command, self.standby, self.continuous, self.converting) {
+        if ads1299_commands::does_act(command, self.standby, self.continuous, self.converting) {
             self.with_output(Output::Empty).perform(command)
         } else {
             self.ignore()
         }
     }
 
-    fn remain(transfer: Transfer) -> Phase
-        requires { ⌜ countable transfer ≡ true ⌝ }
-        ensures { λ r. ⌜ r ≡ remainder transfer ⌝ }
-    {
-        let direction = transfer.direction;
-        if transfer.remaining <= 1 {
-            Phase::Waiting
-        } else {
-            Phase::Counting(Transfer {
-                direction,
-                address: transfer.address + 1,
-                remaining: transfer.remaining - 1,
-            })
-        }
-    }
-
     fn count(self, transfer: Transfer, byte: u8) -> Converter
-        requires { ⌜ countable transfer ≡ true ⌝ }
         ensures { λ r. ⌜ r ≡ counted self transfer byte ⌝ }
     {
         let before = self.registers;
@@ -171,7 +157,7 @@ impl Converter {
             Direction::Read => before,
             Direction::Write => Self::write(before, transfer.address, byte),
         };
-        let phase = Self::remain(transfer);
+        let phase = ads1299_serial::remain(transfer);
         Converter {
             registers,
             phase,
@@ -187,27 +173,26 @@ impl Converter {
         let output = self.output;
         let shifting = self.shifting;
         match phase {
-            Phase::Waiting => protocol::pending_byte(output, shifting),
-            Phase::Held(_) => protocol::pending_byte(output, shifting),
+            Phase::Waiting => ads1299_serial::pending_byte(output, shifting),
+            Phase::Held(_) => ads1299_serial::pending_byte(output, shifting),
             Phase::Counting(transfer) => {
                 let registers = self.registers;
                 let direction = transfer.direction;
                 match direction {
                     Direction::Read => Self::register(registers, transfer.address),
-                    Direction::Write => protocol::pending_byte(output, shifting),
+                    Direction::Write => ads1299_serial::pending_byte(output, shifting),
                 }
             }
         }
     }
 
     fn follow(self, byte: u8) -> Converter
-        requires { ⌜ valid self ≡ true ⌝ }
         ensures { λ r. ⌜ r ≡ followed self byte ⌝ }
     {
         let phase = self.phase;
         match phase {
-            Phase::Waiting => self.command(commands::decode(byte)),
-            Phase::Held(transfer) => self.with_phase(protocol::begin(transfer, byte)),
+            Phase::Waiting => self.command(ads1299_commands::decode(byte)),
+            Phase::Held(transfer) => self.with_phase(ads1299_serial::begin(transfer, byte)),
             Phase::Counting(transfer) => self.count(transfer, byte),
         }
     }

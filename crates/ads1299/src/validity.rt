@@ -2,7 +2,7 @@
 ghost use mathlib.Core.Path.{_≡_};
 ghost use Rattle.ads1299.specs.Validity.{interruptible, valid};
 use crate::Converter;
-use protocol::Output;
+use ads1299_serial::Output;
 
 impl Converter {
     // Whether a command may stand half given: in command mode, awake, with nothing pending.
@@ -29,11 +29,11 @@ impl Converter {
         let owners = self.owners;
         let output = self.output;
         let phase = self.phase;
-        if Self::is_valid_id(registers[registers::ID]) {
-            if protocol::is_valid_place(output) {
+        if Self::is_valid_id(registers[ads1299_registers::ID]) {
+            if ads1299_serial::is_valid_place(output) {
                 let interruptible = Self::is_interruptible(self.continuous, self.standby, output);
-                if protocol::is_valid_phase(phase, interruptible) {
-                    return parties::are_known(owners);
+                if ads1299_serial::is_valid_phase(phase, interruptible) {
+                    return parties::are_known(&owners);
                 }
             }
         }

@@ -7,7 +7,7 @@ use lib.Pow.{shr-lt, pow-pos, pow-mono, pow-add, high, low, field, mod-mod-pow, 
 use lib.Arith.{digits-lt}
 use Rattle.bits.specs.Fields.{inserted}
 use Rattle.bits.specs.Fields as fields
-use Rattle.bits.specs.Laws.{Replaced}
+use Rattle.bits.specs.Laws.{FieldsReplaced}
 
 pub below : (b p w v : ℕ) → v < 2 ^ w → v * 2 ^ p + b % 2 ^ p < 2 ^ (w + p)
 below b p w v h = rw pow-add (digits-lt h (mod-lt b (pow-pos p)))
@@ -38,7 +38,7 @@ inserted-lt n b p w v hv le hb =
     subst (λ (k : ℕ). inserted b p w v < 2 ^ k) e
     (rw (pow-add 2 (n - (w + p)) (w + p)) (digits-lt (shr-lt (n - (w + p)) (w + p) (rw e hb)) (below b p w v hv)))
 
-pub replaced : (b p w v : ℕ) → v < 2 ^ w → Replaced b p w v
+pub replaced : FieldsReplaced
 unfolding fields.field
 replaced b p w v h =
     record {

@@ -10,7 +10,7 @@ use lib.Dec.{eqb, leb}
 use lib.Pow.{pow-pos, shr-shr}
 use lib.Bits.{bitAnd, and-step, and-le-r}
 use Rattle.bits.specs.Fields.{field, bit, inserted, masked}
-use Rattle.bits.specs.Laws.{Selects, PassesMask}
+use Rattle.bits.specs.Laws.{MasksSelect, CoveredPasses}
 use Rattle.cases.proofs.Cases.{split}
 use Rattle.bits.proofs.Fields.{replaced, same-bits, bit-of-field}
 
@@ -60,7 +60,7 @@ over-bit (suc k) old m new (suc i) h lt =
     let half : over (suc k) old m new / 2 ≡ over k (old / 2) (m / 2) (new / 2) = omega arith in
     rw (bit-up (over (suc k) old m new) i, bit-up m i, bit-up new i, bit-up old i, half) (over-bit k (old / 2) (m / 2) (new / 2) i (omega arith) (omega arith))
 
-pub selects : (old mask new : ℕ) → mask < 256 → Selects old mask new
+pub selects : MasksSelect
 unfolding masked
 selects old mask new h i lt = over-bit 8 old mask new i h lt
 
@@ -73,7 +73,7 @@ all-ones (suc w) (suc i) lt =
     let half : (2 ^ suc w - 1) / 2 ≡ 2 ^ w - 1 = omega arith in
     bit-up (2 ^ suc w - 1) i ∙ rw half (all-ones w i (omega arith))
 
-pub passes-mask : (b p w v mask : ℕ) → b < 256 → mask < 256 → v < 2 ^ w → w + p ≤ 8 → PassesMask b p w v mask
+pub passes-mask : CoveredPasses
 unfolding bit
 passes-mask b p w v mask hb hm hv le covers =
     let new = inserted b p w v in

@@ -5,24 +5,34 @@ use mathlib.Core.Bool.{false}
 use mathlib.Core.List.{List}
 use lib.IntN.{ℤ}
 use Rattle.refusal.specs.First.{accepted}
+use Rattle.request.specs.declared.Request.{Request}
+use Rattle.request.specs.Writing.{written, bufferAfter}
 use Rattle.ads1299.specs.Step.{stepped}
 use Rattle.ads1299.specs.Deselect.{deselected}
 use Rattle.ads1299.specs.Sample.{sampled}
 use Rattle.grants.specs.Grant.{granted}
 use Rattle.planner.specs.Submission.{Submission}
 use Rattle.planner.specs.Planned.{planned}
+use Rattle.planner.specs.Buffer.{txAfter}
 use Rattle.flat.specs.declared.FlatConverter.{FlatConverter}
 use Rattle.flat.specs.States.{stateOf}
-use Rattle.capi.specs.Answers.{steppedFrom, movedFrom, plannedFrom}
+use Rattle.capi.specs.Answers.{steppedFrom, movedFrom, flatWritten, plannedFrom, bufferFrom}
 
--- A refusal, whichever it is, hands back the very bytes that it was given.
-pub record HandsBack (f : FlatConverter) : Type 0 where
-  pub steps : (byte : ℕ) → accepted (steppedFrom f (stepped (stateOf f) byte) .refusal) ≡ false
+-- A refusal, whichever it is, hands back the very bytes that it was given, those of a buffer too.
+pub record HandsBack : Type 0 where
+  pub steps : (f : FlatConverter) (byte : ℕ) → accepted (steppedFrom f (stepped (stateOf f) byte) .refusal) ≡ false
       → steppedFrom f (stepped (stateOf f) byte) .next ≡ f
-  pub deselects : accepted (movedFrom f (deselected (stateOf f)) .refusal) ≡ false → movedFrom f (deselected (stateOf f)) .next ≡ f
-  pub samples : (codes : List ℤ) (p n : ℕ) → accepted (movedFrom f (sampled (stateOf f) codes p n) .refusal) ≡ false
+  pub deselects : (f : FlatConverter) → accepted (movedFrom f (deselected (stateOf f)) .refusal) ≡ false
+      → movedFrom f (deselected (stateOf f)) .next ≡ f
+  pub samples : (f : FlatConverter) (codes : List ℤ) (p n : ℕ) → accepted (movedFrom f (sampled (stateOf f) codes p n) .refusal) ≡ false
       → movedFrom f (sampled (stateOf f) codes p n) .next ≡ f
-  pub grants : (caller receiver channel : ℕ) → accepted (movedFrom f (granted (stateOf f) caller receiver channel) .refusal) ≡ false
+  pub grants : (f : FlatConverter) (caller receiver channel : ℕ)
+      → accepted (movedFrom f (granted (stateOf f) caller receiver channel) .refusal) ≡ false
       → movedFrom f (granted (stateOf f) caller receiver channel) .next ≡ f
-  pub plans : (x : Submission) → accepted (plannedFrom f (planned (stateOf f) x) .refusal) ≡ false
+  pub plans : (f : FlatConverter) (x : Submission) → accepted (plannedFrom f (planned (stateOf f) x) .refusal) ≡ false
       → plannedFrom f (planned (stateOf f) x) .next ≡ f
+  pub plan-buffers : (f : FlatConverter) (x : Submission) (tx : List ℕ) (at : ℕ)
+      → accepted (plannedFrom f (planned (stateOf f) x) .refusal) ≡ false
+      → bufferFrom f (txAfter (stateOf f) x tx at) tx ≡ tx
+  pub request-buffers : (r : Request) (buffer : List ℕ) → accepted (flatWritten (written r buffer) .refusal) ≡ false
+      → bufferAfter r buffer ≡ buffer

@@ -3,16 +3,16 @@ use mathlib.Core.Path.{refl}
 use Rattle.bits.specs.Fields.{field, inserted}
 use Rattle.leb128.specs.Decoding.{decoded}
 use Rattle.request.specs.Reading.{readRefusal, parsed}
-use Rattle.ads1299.specs.Registers.{powerUp}
+use Rattle.ads1299_registers.specs.Table.{powerUp}
 use Rattle.ads1299.specs.PowerUp.{validId, restored, poweredUp}
 use Rattle.ads1299.specs.Validity.{validConverter, valid}
 use Rattle.parties.specs.Parties.{knownParty}
 use Rattle.parties.specs.Owners.{ownerOf}
-use Rattle.regmap.specs.Table.{table, rowOf}
-use Rattle.regmap.specs.Names.{named}
-use Rattle.regmap.specs.Places.{place}
-use Rattle.fields.specs.Values.{fits, legal, settable}
-use Rattle.settings.specs.Registers.{readAt, writeAt, fieldOf, fieldByte, withField}
+use Rattle.ads1299_fields.specs.Table.{table, rowOf}
+use Rattle.ads1299_fields.specs.Names.{named}
+use Rattle.ads1299_fields.specs.Places.{place}
+use Rattle.ads1299_fields.specs.Values.{fits, legal, settable}
+use Rattle.ads1299_settings.specs.Registers.{readAt, writeAt, fieldOf, fieldByte, withField}
 use Rattle.planner.specs.Refusals.{judged}
 use Rattle.planner.specs.Plan.{planOf}
 use Rattle.planner.specs.Planned.{refusalOf, changed, plan, planned}

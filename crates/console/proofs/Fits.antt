@@ -13,19 +13,19 @@ use Rattle.ads1299.specs.declared.Converter.{Converter}
 use Rattle.planner.specs.Submission.{Submission}
 use Rattle.planner.specs.Plan.{planOf}
 use Rattle.planner.specs.Planned.{refusalOf, plan, planned}
-use Rattle.planner.proofs.Length.{plan-length}
+use Rattle.planner.proofs.Length.{plan-length, plans-fit}
 use Rattle.console.specs.Line.{longestLine}
 use Rattle.console.specs.Turn.{fresh, isRead, submitted, answered, printed, nextState, consumed}
 use Rattle.console.specs.Transcript.{inputLimit, longestTranscript, lines, session, run, transcriptOf}
 use Rattle.console.specs.Claims.{AlwaysFits}
 use Rattle.console.proofs.Lines.{short-line, plan-line}
-use Rattle.console.proofs.Turns.{always-room, three-each, some-consumed, consumed-within}
+use Rattle.console.proofs.Turns.{three-each, some-consumed, consumed-within}
 
 answered-fits : (s : Converter) (x : Submission) → length (answered s x) ≤ longestLine
 unfolding planned plan
 answered-fits s x =
     split (accepted (refusalOf s x))
-    (λ a. rw a (omega (arith, plan-line (planOf s (x .request)), plan-length s (x .request), always-room s)))
+    (λ a. rw a (omega (arith, plan-line (planOf s (x .request)), plan-length s (x .request), plans-fit s)))
     (λ a. rw a (omega (arith, short-line (refusalOf s x))))
 
 -- a line is no longer than its share of the bytes

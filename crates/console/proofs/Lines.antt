@@ -5,11 +5,12 @@ use Prim.Native.Nat.{ℕ, _+_, _*_, _≤_}
 use native.Mathlib.Omega.{arith}
 use lib.Dec.{ltb}
 use lib.ListN.{length, set, length-append}
-use lib.Seq.{sets, length-sets}
+use Rattle.splice.specs.Splice.{spliced}
+use Rattle.splice.proofs.Splice.{fitting-laid, splices-join}
 use Rattle.cases.proofs.Cases.{split}
 use Rattle.console.specs.Text.{newline, decimal, hexes}
 use Rattle.console.specs.Line.{line}
-use Rattle.console.proofs.Storing.{sets-append}
+use Rattle.console.proofs.Storing.{one}
 use Rattle.console.proofs.Texts.{length-hexes}
 
 pub length-line : (n : ℕ) (plan : List ℕ) → length (line n plan) ≡ length (decimal n) + length (hexes plan) + 1
@@ -29,19 +30,23 @@ unfolding decimal
 plan-line plan = omega (arith, length-line 0 plan, length-hexes plan)
 
 -- what storing the number, the plan and the newline one after the other leaves
-module _ (out : List ℕ) (at n : ℕ) (plan : List ℕ) where
-  pub stored : (p q : ℕ) (number rest : List ℕ) → p ≡ at + length (decimal n) → number ≡ sets out at (decimal n)
-      → q ≡ p + length (hexes plan) → rest ≡ sets number p (hexes plan)
-      → (q + 1 ≡ at + length (line n plan)) × ((length rest ≡ length out) × (set rest q newline ≡ sets out at (line n plan)))
+module _ (out : List ℕ) (at n : ℕ) (plan : List ℕ) (fits : at + length (line n plan) ≤ length out) where
+  pub stored : (p q : ℕ) (number rest : List ℕ) → p ≡ at + length (decimal n) → number ≡ spliced out at (decimal n)
+      → q ≡ p + length (hexes plan) → rest ≡ spliced number p (hexes plan)
+      → (q + 1 ≡ at + length (line n plan)) × ((length rest ≡ length out) × (set rest q newline ≡ spliced out at (line n plan)))
   unfolding line
   stored p q number rest ep en eq er =
       let both = decimal n ++ hexes plan in
-      let m : q ≡ at + length both = omega (arith, length-append (decimal n) (hexes plan)) in (
-        omega (arith, length-line n plan),
+      let sum = length-append (decimal n) (hexes plan) in
+      let whole = length-line n plan in
+      let m : q ≡ at + length both = omega arith in
+      let text : rest ≡ spliced out at both = er ∙ (λ i. spliced (en i) (ep i) (hexes plan)) ∙ splices-join out at (decimal n) (hexes plan) (omega arith) in
+      let size : length rest ≡ length out = ap length text ∙ fitting-laid out at both (omega arith) .size in (
+        omega arith,
         (
-          ap length er ∙ length-sets number p (hexes plan) ∙ ap length en ∙ length-sets out at (decimal n),
-          (λ i. set (er i) (m i) newline) ∙ (λ i. set (sets (en i) (ep i) (hexes plan)) (at + length both) newline)
-              ∙ ap (λ (l : List ℕ). set l (at + length both) newline) (sym (sets-append (decimal n) (hexes plan) out at))
-              ∙ sym (sets-append both (newline ∷ []) out at),
+          size,
+          one rest q newline (omega arith)
+              ∙ (λ i. spliced (text i) (m i) (newline ∷ []))
+              ∙ splices-join out at both (newline ∷ []) (omega arith),
         ),
       )

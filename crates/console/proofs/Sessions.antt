@@ -1,5 +1,5 @@
 -- A session, one request after the other. Assumes nothing.
-use mathlib.Core.Path.{_≡_, refl, ap, _∙_}
+use mathlib.Core.Path.{_≡_, refl, sym, ap, _∙_}
 use mathlib.Core.Bool.{true, false}
 use mathlib.Core.List.{List, [], _++_}
 use Prim.Native.Nat.{ℕ, zero, suc, _+_, _≤_, _<_}
@@ -7,14 +7,15 @@ use native.Mathlib.Omega.{arith}
 use borrow.Author.Tests.{eq-eqb, ne-eqb, eqb-false}
 use lib.Dec.{eqb}
 use lib.ListN.{length, drop, length-append, length-drop}
-use lib.Seq.{sets, drop-drop}
+use lib.Seq.{drop-drop}
+use Rattle.splice.specs.Splice.{spliced}
+use Rattle.splice.proofs.Splice.{splices-join}
 use Rattle.cases.proofs.Cases.{split}
 use Rattle.ads1299.specs.declared.Converter.{Converter}
 use Rattle.console.specs.declared.Turn.{Turn}
 use Rattle.console.specs.Turn.{printed, nextState, consumed, turn}
 use Rattle.console.specs.Transcript.{lines, session}
 use Rattle.console.specs.Claims.{OneByOne}
-use Rattle.console.proofs.Storing.{sets-append}
 use Rattle.console.proofs.Turns.{some-consumed, consumed-within}
 
 -- as many requests as there are bytes are enough
@@ -76,11 +77,14 @@ module _ (s : Converter) (party at place : ℕ) (bytes out : List ℕ) (h : at <
         let p : t .place ≡ place + length (printed s party (drop at bytes)) = ap (λ (x : Turn). x .place) et in
         omega (arith, ap length after, length-append (printed s party (drop at bytes)) (session (t .next) party (drop (at + t .used) bytes)))
 
-    pub text : (more : List ℕ) → more ≡ sets out place (printed s party (drop at bytes))
-        → sets out place (session s party (drop at bytes)) ≡ sets more (t .place) (session (t .next) party (drop (at + t .used) bytes))
+    pub text : place + length (session s party (drop at bytes)) ≤ length out
+        → (more : List ℕ) → more ≡ spliced out place (printed s party (drop at bytes))
+        → spliced out place (session s party (drop at bytes)) ≡ spliced more (t .place) (session (t .next) party (drop (at + t .used) bytes))
     unfolding turn
-    text more em =
-        let p : t .place ≡ place + length (printed s party (drop at bytes)) = ap (λ (x : Turn). x .place) et in
-        ap (λ (l : List ℕ). sets out place l) after
-        ∙ sets-append (printed s party (drop at bytes)) (session (t .next) party (drop (at + t .used) bytes)) out place
-        ∙ rw (em, p)
+    text fits more em =
+        let first = printed s party (drop at bytes) in
+        let second = session (t .next) party (drop (at + t .used) bytes) in
+        let p : t .place ≡ place + length first = ap (λ (x : Turn). x .place) et in
+        ap (spliced out place) after
+        ∙ sym (splices-join out place first second (omega (arith, ap length after, length-append first second)))
+        ∙ (λ i. spliced (sym em i) (sym p i) second)

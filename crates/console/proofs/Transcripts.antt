@@ -1,17 +1,15 @@
 -- The transcript by cases of the input, and as it is written. Assumes nothing.
-use mathlib.Core.Path.{_≡_, refl, ap, _∙_}
-use mathlib.Core.List.{List, [], _∷_, _++_}
+use mathlib.Core.Path.{_≡_, refl, sym, ap, _∙_}
+use mathlib.Core.List.{List, [], _∷_}
 use Prim.Native.Nat.{ℕ, _+_, _≤_, _<_}
 use native.Mathlib.Omega.{arith}
 use borrow.Author.Tests.{lt-ltb, le-ltb}
 use lib.ListN.{length, getD, drop}
-use lib.Seq.{sets, sets-eq}
 use Rattle.refusal.specs.Numbers.{truncated, inputTooLong}
-use Rattle.planner.specs.Writer.{overlaid}
+use Rattle.splice.specs.Splice.{spliced}
 use Rattle.console.specs.Line.{line}
 use Rattle.console.specs.Turn.{fresh}
-use Rattle.console.specs.Transcript.{inputLimit, longestTranscript, session, transcriptOf}
-use Rattle.console.proofs.Fits.{always-fits}
+use Rattle.console.specs.Transcript.{inputLimit, session, transcriptOf}
 
 pub too-long : (input : List ℕ) → inputLimit < length input → transcriptOf input ≡ line inputTooLong []
 unfolding transcriptOf
@@ -27,10 +25,9 @@ unfolding transcriptOf
 requests [] h ne = absurd (ne refl)
 requests (party ∷ bytes) h ne = rw (le-ltb _ _ h)
 
--- what is stored from the start on
-pub written : (input out text after : List ℕ) (n : ℕ) → length out ≡ longestTranscript → transcriptOf input ≡ text → n ≡ 0 + length text → after ≡ sets out 0 text
-    → (n ≡ length (transcriptOf input)) × (after ≡ overlaid out (transcriptOf input))
-written input out text after n size e en ea =
-    let f = always-fits input in
+-- what is written from the start on
+pub written : (input out text after : List ℕ) (n : ℕ) → transcriptOf input ≡ text → n ≡ 0 + length text → after ≡ spliced out 0 text
+    → (n ≡ length (transcriptOf input)) × (after ≡ spliced out 0 (transcriptOf input))
+written input out text after n e en ea =
     let z : 0 + length text ≡ length text = omega arith in
-    (rw e (en ∙ z), rw e (ea ∙ sets-eq text out 0 (omega (arith, ap length e)) ∙ ap (λ (k : ℕ). text ++ drop k out) z))
+    (rw e (en ∙ z), ea ∙ ap (spliced out 0) (sym e))

@@ -16,20 +16,13 @@ use Rattle.request.proofs.RoundTrip.{round-trip}
 use Rattle.ads1299.specs.declared.Converter.{Converter}
 use Rattle.planner.specs.declared.Planned.{Planned}
 use Rattle.planner.specs.Submission.{Submission, submission}
-use Rattle.planner.specs.Plan.{planOf, planLength}
+use Rattle.planner.specs.Plan.{planOf, planLength, longestPlan}
 use Rattle.planner.specs.Planned.{refusalOf, plan, planned}
 use Rattle.planner.specs.Buffer.{txAfter}
-use Rattle.planner.proofs.Length.{plan-length}
+use Rattle.planner.proofs.Length.{plan-length, plans-fit}
 use Rattle.planner.proofs.Placement.{placement}
-use Rattle.console.specs.Line.{longestPlan, line}
+use Rattle.console.specs.Line.{line}
 use Rattle.console.specs.Turn.{isRead, printed, nextState, consumed, turn}
-use Rattle.console.specs.Claims.{AlwaysRoom}
-
-pub always-room : AlwaysRoom
-always-room s =
-    split (s .standby)
-    (λ a. split (s .continuous) (λ b. rw (a, b) (omega arith)) (λ b. rw (a, b) (omega arith)))
-    (λ a. split (s .continuous) (λ b. rw (a, b) (omega arith)) (λ b. rw (a, b) (omega arith)))
 
 -- what lies at the buffer's start is the plan
 shown : (s : Converter) (x : Submission) (tx : List ℕ) → take (planned s x .length) (txAfter s x tx 0) ≡ plan s x
@@ -38,7 +31,7 @@ shown s x tx = split (accepted (refusalOf s x)) (λ a. rw a (take-at (planOf s (
 
 short : (s : Converter) (x : Submission) → planned s x .length ≤ longestPlan
 unfolding planned
-short s x = split (accepted (refusalOf s x)) (λ a. rw a (always-room s)) (λ a. rw a (omega arith))
+short s x = split (accepted (refusalOf s x)) (λ a. rw a (plans-fit s)) (λ a. rw a (omega arith))
 
 module _ (s : Converter) (party : ℕ) (bytes : List ℕ) (p : Parsed) (e : p ≡ parsed bytes) where
   -- the bytes are not read

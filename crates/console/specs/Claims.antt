@@ -4,14 +4,8 @@ use mathlib.Core.Path.{_≡_}
 use mathlib.Core.List.{List, _++_}
 use lib.ListN.{length, drop}
 use Rattle.ads1299.specs.declared.Converter.{Converter}
-use Rattle.planner.specs.Plan.{planLength}
-use Rattle.console.specs.Line.{longestPlan}
 use Rattle.console.specs.Turn.{printed, nextState, consumed}
 use Rattle.console.specs.Transcript.{longestTranscript, session, transcriptOf}
-
--- No plan is longer than the room that it is given, so there is always room.
-abbrev pub AlwaysRoom : Type 0
-AlwaysRoom = (s : Converter) → planLength s ≤ longestPlan
 
 -- No transcript is longer than the longest, whatever the input.
 abbrev pub AlwaysFits : Type 0

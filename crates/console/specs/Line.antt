@@ -1,11 +1,8 @@
 -- The line that a request prints.
 use Prim.Native.Nat.{ℕ, _+_, _*_}
 use mathlib.Core.List.{List, [], _∷_, _++_}
+use Rattle.planner.specs.Plan.{longestPlan}
 use Rattle.console.specs.Text.{newline, decimal, hexes}
-
--- the most bytes of a plan: document 01 has plans of 3, 5 and 7
-abbrev pub longestPlan : ℕ
-longestPlan = 7
 
 -- the most bytes of a line: the digit 0, a blank and two digits for each byte of a plan, the newline
 abbrev pub longestLine : ℕ

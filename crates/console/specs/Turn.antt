@@ -4,7 +4,7 @@ use mathlib.Core.Bool.{Bool, cond}
 use mathlib.Core.List.{List, []}
 use lib.ListN.{length, replicate}
 use Rattle.refusal.specs.First.{accepted}
-use Rattle.registers.specs.Addresses.{channelCount}
+use Rattle.ads1299_registers.specs.Addresses.{channelCount}
 use Rattle.request.specs.Reading.{parsed}
 use Rattle.ads1299.specs.declared.Converter.{Converter}
 use Rattle.ads1299.specs.State.{withOwners}
@@ -12,7 +12,8 @@ use Rattle.ads1299.specs.PowerUp.{poweredUp}
 use Rattle.planner.specs.Submission.{Submission}
 use Rattle.planner.specs.Planned.{plan, planned}
 use Rattle.console.specs.declared.Turn.{Turn}
-use Rattle.console.specs.Line.{longestPlan, line}
+use Rattle.planner.specs.Plan.{longestPlan}
+use Rattle.console.specs.Line.{line}
 
 -- the converter's ID
 abbrev pub id : ℕ

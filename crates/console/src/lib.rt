@@ -2,8 +2,7 @@
 ghost use mathlib.Core.Path.{_≡_};
 ghost use Prim.Native.Nat.{_+_, _<_, _≤_};
 ghost use lib.ListN.{length};
-ghost use lib.Seq.{sets};
-ghost use Rattle.planner.specs.Writer.{overlaid};
+ghost use Rattle.splice.specs.Splice.{spliced};
 ghost use Rattle.console.specs.Text.{hexDigit, decimal, hex, hexes};
 ghost use Rattle.console.specs.Line.{line};
 ghost use Rattle.console.specs.Turn.{fresh, printed, turn};
@@ -18,13 +17,11 @@ const ID: u8 = 0x3E;
 // The party that every channel belongs to.
 const OWNER: u8 = 1;
 
-const LONGEST_PLAN: usize = 7;
-
 // The refusal's digit, a blank and two digits for each byte of the longest plan, and a newline.
-const LONGEST_LINE: usize = 3 * LONGEST_PLAN + 2;
+const LONGEST_LINE: usize = 3 * planner::LONGEST + 2;
 
-// The shortest request has three bytes, and one byte of the input is the party.
-pub const LONGEST_TRANSCRIPT: usize = (INPUT_LIMIT - 1) / 3 * LONGEST_LINE;
+// The shortest request has a byte for each number, and one byte of the input is the party.
+pub const LONGEST_TRANSCRIPT: usize = (INPUT_LIMIT - 1) / request::NUMBERS * LONGEST_LINE;
 
 // What one request leaves: how many bytes are done with, the place after its line, and the state.
 struct Turn {
@@ -43,7 +40,7 @@ fn hex_digit(n: u8) -> u8
 // Writes a number in decimal and gives the place after it; two digits are enough for a refusal.
 fn put_decimal(out: &mut [u8], at: usize, number: u8) -> usize
     requires { ⌜ at + length (decimal number) ≤ length (now out) ⌝ }
-    ensures { λ r. ⌜ (r ≡ at + length (decimal number)) × (now (out .exit) ≡ sets (now (out .entry)) at (decimal number)) ⌝ }
+    ensures { λ r. ⌜ (r ≡ at + length (decimal number)) × (now (out .exit) ≡ spliced (now (out .entry)) at (decimal number)) ⌝ }
 {
     if number < 10 {
         out[at] = b'0' + number;
@@ -58,7 +55,7 @@ fn put_decimal(out: &mut [u8], at: usize, number: u8) -> usize
 // Writes a blank and a byte's two digits.
 fn put_hex(out: &mut [u8], at: usize, byte: u8)
     requires { ⌜ at + 3 ≤ length (now out) ⌝ }
-    ensures { λ _. ⌜ now (out .exit) ≡ sets (now (out .entry)) at (hex byte) ⌝ }
+    ensures { λ _. ⌜ now (out .exit) ≡ spliced (now (out .entry)) at (hex byte) ⌝ }
 {
     let high = hex_digit(byte / 16);
     let low = hex_digit(byte % 16);
@@ -70,7 +67,7 @@ fn put_hex(out: &mut [u8], at: usize, byte: u8)
 // Writes bytes in hex, each after a blank, and gives the place after them.
 fn put_hexes(out: &mut [u8], at: usize, bytes: &[u8]) -> usize
     requires { ⌜ at + length (hexes (now bytes)) ≤ length (now out) ⌝ }
-    ensures { λ r. ⌜ (r ≡ at + length (hexes (now (bytes .entry)))) × (now (out .exit) ≡ sets (now (out .entry)) at (hexes (now (bytes .entry)))) ⌝ }
+    ensures { λ r. ⌜ (r ≡ at + length (hexes (now (bytes .entry)))) × (now (out .exit) ≡ spliced (now (out .entry)) at (hexes (now (bytes .entry)))) ⌝ }
 {
     let mut place = at;
     let mut i: usize = 0;
@@ -85,7 +82,7 @@ fn put_hexes(out: &mut [u8], at: usize, bytes: &[u8]) -> usize
 // Writes the line of a refusal number and a plan, which is empty unless the number is 0, and gives the place after it.
 fn put_line(out: &mut [u8], at: usize, number: u8, plan: &[u8]) -> usize
     requires { ⌜ at + length (line number (now plan)) ≤ length (now out) ⌝ }
-    ensures { λ r. ⌜ (r ≡ at + length (line number (now (plan .entry)))) × (now (out .exit) ≡ sets (now (out .entry)) at (line number (now (plan .entry)))) ⌝ }
+    ensures { λ r. ⌜ (r ≡ at + length (line number (now (plan .entry)))) × (now (out .exit) ≡ spliced (now (out .entry)) at (line number (now (plan .entry)))) ⌝ }
 {
     let after_number = put_decimal(out, at, number);
     let end = put_hexes(out, after_number, plan);
@@ -99,7 +96,7 @@ fn start() -> Converter
 {
     let powered = Converter::power_up(ID);
     let converter = powered.converter;
-    let owners = [OWNER; 8];
+    let owners = [OWNER; ads1299_registers::CHANNELS];
     Converter {
         owners,
         ..converter
@@ -110,10 +107,10 @@ fn start() -> Converter
 fn answer(converter: Converter, party: u32, bytes: &[u8], out: &mut [u8], at: usize) -> Turn
     requires { ⌜ at + length (printed converter party (now bytes)) ≤ length (now out) ⌝ }
     ensures { λ r. ⌜ (r ≡ turn converter party (now (bytes .entry)) at)
-        × (now (out .exit) ≡ sets (now (out .entry)) at (printed converter party (now (bytes .entry)))) ⌝ }
+        × (now (out .exit) ≡ spliced (now (out .entry)) at (printed converter party (now (bytes .entry)))) ⌝ }
 {
     let read = request::read(bytes);
-    let mut plan = [0u8; LONGEST_PLAN];
+    let mut plan = [0u8; planner::LONGEST];
     if read.refusal != refusal::NONE {
         let place = put_line(out, at, read.refusal, &plan[..0]);
         return Turn {
@@ -137,7 +134,7 @@ fn answer(converter: Converter, party: u32, bytes: &[u8], out: &mut [u8], at: us
 fn answer_all(party: u32, bytes: &[u8], out: &mut [u8]) -> usize
     requires { ⌜ length (session fresh party (now bytes)) ≤ length (now out) ⌝ }
     ensures { λ r. ⌜ (r ≡ length (session fresh party (now (bytes .entry))))
-        × (now (out .exit) ≡ sets (now (out .entry)) 0 (session fresh party (now (bytes .entry)))) ⌝ }
+        × (now (out .exit) ≡ spliced (now (out .entry)) 0 (session fresh party (now (bytes .entry)))) ⌝ }
 {
     let mut converter = start();
     let mut at: usize = 0;
@@ -155,7 +152,7 @@ fn answer_all(party: u32, bytes: &[u8], out: &mut [u8]) -> usize
 // Writes what the program prints from the start of `out`, which holds the longest; bytes after it stay. Gives its length.
 pub fn transcript(input: &[u8], out: &mut [u8; LONGEST_TRANSCRIPT]) -> usize
     ensures { λ r. ⌜ (r ≡ length (transcriptOf (now (input .entry))))
-        × (now (out .exit) ≡ overlaid (now (out .entry)) (transcriptOf (now (input .entry)))) ⌝ }
+        × (now (out .exit) ≡ spliced (now (out .entry)) 0 (transcriptOf (now (input .entry)))) ⌝ }
 {
     if INPUT_LIMIT < input.len() {
         return put_line(out, 0, refusal::INPUT_TOO_LONG, &input[0..0]);

@@ -6,13 +6,13 @@ use lib.Dec.{eqb, leb}
 use borrow.Author.Tests.{eqb-true, leb-true, ne-eqb}
 use native.Mathlib.Omega.{arith}
 use Rattle.cases.proofs.Cases.{and-both}
-use Rattle.protocol.specs.declared.Direction.{Direction}
-use Rattle.protocol.specs.declared.Direction.the-variants.{Read, Write}
-use Rattle.protocol.specs.declared.Output.{Output}
-use Rattle.protocol.specs.declared.Output.the-variants.{Empty, At}
-use Rattle.protocol.specs.declared.Phase.{Phase}
-use Rattle.protocol.specs.declared.Phase.the-variants.{Waiting, Held, Counting}
-use Rattle.protocol.specs.Transfers.{transfer}
+use Rattle.ads1299_serial.specs.declared.Direction.{Direction}
+use Rattle.ads1299_serial.specs.declared.Direction.the-variants.{Read, Write}
+use Rattle.ads1299_serial.specs.declared.Output.{Output}
+use Rattle.ads1299_serial.specs.declared.Output.the-variants.{Empty, At}
+use Rattle.ads1299_serial.specs.declared.Phase.{Phase}
+use Rattle.ads1299_serial.specs.declared.Phase.the-variants.{Waiting, Held, Counting}
+use Rattle.ads1299_serial.specs.Transfers.{transfer}
 use Rattle.ads1299.specs.declared.Converter.{Converter}
 use Rattle.ads1299.specs.State.{state}
 use Rattle.flat.specs.declared.FlatConverter.{FlatConverter}

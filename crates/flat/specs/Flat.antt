@@ -1,14 +1,14 @@
 -- The flat form of a state: bytes alone, for other languages.
 use Prim.Native.Nat.{ℕ}
 use mathlib.Core.Bool.{Bool, cond}
-use Rattle.protocol.specs.declared.Direction.{Direction}
-use Rattle.protocol.specs.declared.Direction.the-variants.{Read, Write}
-use Rattle.protocol.specs.declared.Output.{Output}
-use Rattle.protocol.specs.declared.Output.the-variants.{Empty, At}
-use Rattle.protocol.specs.declared.Phase.{Phase}
-use Rattle.protocol.specs.declared.Phase.the-variants.{Waiting, Held, Counting}
-use Rattle.protocol.specs.declared.Transfer.{Transfer}
-use Rattle.protocol.specs.Transfers.{transfer}
+use Rattle.ads1299_serial.specs.declared.Direction.{Direction}
+use Rattle.ads1299_serial.specs.declared.Direction.the-variants.{Read, Write}
+use Rattle.ads1299_serial.specs.declared.Output.{Output}
+use Rattle.ads1299_serial.specs.declared.Output.the-variants.{Empty, At}
+use Rattle.ads1299_serial.specs.declared.Phase.{Phase}
+use Rattle.ads1299_serial.specs.declared.Phase.the-variants.{Waiting, Held, Counting}
+use Rattle.ads1299_serial.specs.declared.Transfer.{Transfer}
+use Rattle.ads1299_serial.specs.Transfers.{transfer}
 use Rattle.ads1299.specs.declared.Converter.{Converter}
 use Rattle.flat.specs.declared.FlatConverter.{FlatConverter}
 use Rattle.flat.specs.Codes.{off, on, empty, atPlace, waiting, held, counting, read, write}

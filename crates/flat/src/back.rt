@@ -10,10 +10,10 @@ use super::codes::WAITING;
 use super::codes::WRITE;
 use crate::FlatConverter;
 use ads1299::Converter;
-use protocol::Direction;
-use protocol::Output;
-use protocol::Phase;
-use protocol::Transfer;
+use ads1299_serial::Direction;
+use ads1299_serial::Output;
+use ads1299_serial::Phase;
+use ads1299_serial::Transfer;
 
 fn are_flags(continuous: u8, standby: u8, converting: u8) -> bool
     ensures { λ r. ⌜ r ≡ areFlags continuous standby converting ⌝ }

@@ -12,10 +12,10 @@ use super::codes::WAITING;
 use super::codes::WRITE;
 use crate::FlatConverter;
 use ads1299::Converter;
-use protocol::Direction;
-use protocol::Output;
-use protocol::Phase;
-use protocol::Transfer;
+use ads1299_serial::Direction;
+use ads1299_serial::Output;
+use ads1299_serial::Phase;
+use ads1299_serial::Transfer;
 
 pub fn flag_code(flag: bool) -> u8
     ensures { λ r. ⌜ r ≡ flagCode flag ⌝ }

@@ -12,15 +12,15 @@ pub use forward::flatten;
 // flat form: what an empty output or a waiting converter does not use is 0. Other bytes stand for no state (refusal 13).
 #[repr(C)]
 pub struct FlatConverter {
-    pub registers: [u8; 24],
-    pub owners: [u8; 8],
-    pub latest: [u8; 27],
+    pub registers: [u8; ads1299_registers::COUNT],
+    pub owners: [u8; ads1299_registers::CHANNELS],
+    pub latest: [u8; ads1299_frame::LENGTH],
     pub output: u8,
     pub place: u8,
     pub continuous: u8,
     pub standby: u8,
     pub converting: u8,
-    pub shifting: [u8; 27],
+    pub shifting: [u8; ads1299_frame::LENGTH],
     pub phase: u8,
     pub direction: u8,
     pub address: u8,

@@ -10,7 +10,7 @@ use Rattle.refusal.proofs.First.{exact}
 use Rattle.ads1299.specs.declared.Converter.{Converter}
 use Rattle.ads1299.specs.Validity.{valid}
 use Rattle.parties.specs.Parties.{knownParty, isAdmin}
-use Rattle.parties.specs.Channels.{isChannel}
+use Rattle.ads1299_registers.specs.Channels.{isChannel}
 use Rattle.grants.specs.Grant.{grantRefusals, grantRefusal, granted}
 
 pub grant-number : (s : Converter) (caller receiver channel : ℕ) → granted s caller receiver channel .refusal ≡ grantRefusal s caller receiver channel

@@ -1,6 +1,6 @@
 -- The figures hold by computation.
 use mathlib.Core.Path.{refl}
-use Rattle.ads1299.specs.Registers.{powerUp}
+use Rattle.ads1299_registers.specs.Table.{powerUp}
 use Rattle.ads1299.specs.PowerUp.{validId, restored, poweredUp}
 use Rattle.ads1299.specs.Validity.{validConverter, valid}
 use Rattle.parties.specs.Parties.{knownParty, isAdmin}

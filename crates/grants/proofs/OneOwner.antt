@@ -11,21 +11,20 @@ use lib.Seq.{getD-set-same, getD-set-other}
 use Rattle.cases.proofs.Cases.{split, either, and-both}
 use Rattle.refusal.specs.Numbers.{none}
 use Rattle.refusal.specs.First.{accepted}
-use Rattle.registers.specs.Addresses.{channelCount}
+use Rattle.ads1299_registers.specs.Addresses.{channelCount}
 use Rattle.ads1299.specs.declared.Converter.{Converter}
 use Rattle.ads1299.specs.declared.Moved.{Moved}
 use Rattle.parties.specs.Parties.{largestParty}
 use Rattle.parties.specs.Owners.{knownOwners}
-use Rattle.ads1299.specs.State.{withOwners}
-use Rattle.ads1299.specs.Deselect.{moved}
+use Rattle.ads1299.specs.State.{withOwners, moved}
 use Rattle.ads1299.specs.Validity.{valid}
 use Rattle.ads1299.proofs.ValidState.{parts, whole}
 use Rattle.parties.specs.Parties.{knownParty}
 use Rattle.parties.specs.Owners.{ownerOf}
-use Rattle.parties.specs.Channels.{isChannel}
+use Rattle.ads1299_registers.specs.Channels.{isChannel}
 use Rattle.grants.specs.Grant.{grantRefusal, reassigned, granted}
 use Rattle.grants.specs.Claims.{GrantKeepsValid, GrantMovesOneOwner}
-use Rattle.parties.proofs.Bounds.{bounds}
+use Rattle.ads1299_registers.proofs.Bounds.{bounds}
 use Rattle.parties.proofs.Owners.{set-known}
 use Rattle.grants.proofs.Accepted.{grant-number, grantable}
 

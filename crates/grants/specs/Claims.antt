@@ -5,13 +5,13 @@ use mathlib.Core.Bool.{true, cond}
 use lib.Dec.{eqb}
 use lib.ListN.{length}
 use Rattle.refusal.specs.Numbers.{none}
-use Rattle.registers.specs.Addresses.{channelCount}
+use Rattle.ads1299_registers.specs.Addresses.{channelCount}
 use Rattle.ads1299.specs.declared.Converter.{Converter}
 use Rattle.ads1299.specs.declared.Moved.{Moved}
 use Rattle.ads1299.specs.State.{withOwners}
 use Rattle.ads1299.specs.Validity.{valid}
 use Rattle.parties.specs.Owners.{ownerOf}
-use Rattle.parties.specs.Channels.{isChannel}
+use Rattle.ads1299_registers.specs.Channels.{isChannel}
 use Rattle.grants.specs.Grant.{granted}
 
 -- From a state that passes 13, every grant leads to one that passes it.

@@ -1,7 +1,7 @@
 -- Worked cases of grants, in one table.
 use Prim.Native.Nat.{ℕ}
-use mathlib.Core.Path.{_≡_}
-use mathlib.Core.List.{List, [], _∷_, map}
+use mathlib.Core.List.{List, [], _∷_}
+use Rattle.cases.specs.Figures.{Hold}
 use Rattle.ads1299.specs.declared.Converter.{Converter}
 use Rattle.ads1299.specs.Figures.{shared, invalid}
 use Rattle.grants.specs.Grant.{granted}
@@ -28,6 +28,6 @@ figures =
     ∷ grant invalid 9 9 0 13 (invalid .owners)
     ∷ []
 
--- every figure of the table is what the definitions give
+-- Every figure of the table is what the definitions give.
 abbrev pub FiguresHold : Type 0
-FiguresHold = map workedOut figures ≡ figures
+FiguresHold = Hold workedOut figures

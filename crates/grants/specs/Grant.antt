@@ -7,11 +7,10 @@ use Rattle.refusal.specs.Numbers.{none, unknownParty, wrongChannel, notOwner, i
 use Rattle.refusal.specs.First.{firstOf, accepted}
 use Rattle.ads1299.specs.declared.Converter.{Converter}
 use Rattle.ads1299.specs.declared.Moved.{Moved}
-use Rattle.ads1299.specs.State.{withOwners}
+use Rattle.ads1299.specs.State.{withOwners, moved}
 use Rattle.ads1299.specs.Validity.{valid}
-use Rattle.ads1299.specs.Deselect.{moved}
 use Rattle.parties.specs.Parties.{knownParty, isAdmin}
-use Rattle.parties.specs.Channels.{isChannel}
+use Rattle.ads1299_registers.specs.Channels.{isChannel}
 
 -- the refusals of a grant, in the order in which they are tried
 abbrev pub grantRefusals : Converter → ℕ → ℕ → ℕ → List (Bool × ℕ)

@@ -2,7 +2,7 @@
 ghost use mathlib.Core.Path.{_≡_};
 ghost use mathlib.Core.Bool.{true};
 ghost use Rattle.parties.specs.Parties.{knownParty};
-ghost use Rattle.parties.specs.Channels.{isChannel};
+ghost use Rattle.ads1299_registers.specs.Channels.{isChannel};
 ghost use Rattle.grants.specs.Grant.{grantRefusal, reassigned, granted};
 use ads1299::Converter;
 use ads1299::Moved;
@@ -11,22 +11,19 @@ use ads1299::Moved;
 fn refuse_grant(converter: Converter, caller: u32, receiver: u32, channel: u32) -> u8
     ensures { λ r. ⌜ r ≡ grantRefusal converter caller receiver channel ⌝ }
 {
-    if !converter.is_valid() {
-        return refusal::INVALID_STATE;
-    }
-    if !parties::is_known(caller) {
-        return refusal::UNKNOWN_PARTY;
-    }
-    if !parties::is_known(receiver) {
-        return refusal::UNKNOWN_PARTY;
-    }
-    if !parties::is_channel(channel) {
-        return refusal::WRONG_CHANNEL;
-    }
-    if !parties::is_admin(caller) {
-        return refusal::NOT_OWNER;
-    }
-    refusal::NONE
+    let valid = converter.is_valid();
+    let caller_known = parties::is_known(caller);
+    let receiver_known = parties::is_known(receiver);
+    let there = ads1299_registers::is_channel(channel);
+    let admin = parties::is_admin(caller);
+    let numbers = [
+        refusal::when(!valid, refusal::INVALID_STATE),
+        refusal::when(!caller_known, refusal::UNKNOWN_PARTY),
+        refusal::when(!receiver_known, refusal::UNKNOWN_PARTY),
+        refusal::when(!there, refusal::WRONG_CHANNEL),
+        refusal::when(!admin, refusal::NOT_OWNER),
+    ];
+    refusal::first_of(&numbers)
 }
 
 // The state with one owner entry changed.

@@ -24,5 +24,5 @@ merge-heads (x ∷ l) lists m =
     (merge-heads l (replaced lists (x .party) (from (x .party) l))
     (λ p. split (eqb (x .party) p) (λ q. rw q (rw (eqb-true (x .party) p q))) (λ q. rw q (rw q at (m p)))))
 
-pub merge-is-interleaving : (lists : Lists) (l : List Submission) → MergesInterleave lists l
-merge-is-interleaving lists l = record { takes-heads = merge-heads l lists; is-merge = heads-merge }
+pub merge-is-interleaving : MergesInterleave
+merge-is-interleaving = record { takes-heads = λ lists l. merge-heads l lists; is-merge = λ lists l. heads-merge }

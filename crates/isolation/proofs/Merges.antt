@@ -9,12 +9,13 @@ use Rattle.cases.proofs.Cases.{split}
 use Rattle.refusal.specs.First.{accepted}
 use Rattle.ads1299.specs.declared.Converter.{Converter}
 use Rattle.ads1299.specs.Formed.{Formed}
-use Rattle.regmap.specs.Names.{named}
-use Rattle.settings.specs.Registers.{fieldOf}
-use Rattle.settings.proofs.Registers.{same-registers}
+use Rattle.ads1299_fields.specs.Names.{named}
+use Rattle.ads1299_settings.specs.Registers.{fieldOf}
+use Rattle.ads1299_settings.proofs.Registers.{same-registers}
 use Rattle.planner.specs.Submission.{Submission}
 use Rattle.planner.specs.Refusals.{fieldOwner}
-use Rattle.planner.specs.Planned.{refusalOf, next}
+use Rattle.planner.specs.Planned.{planned}
+use Rattle.planner.proofs.Accepted.{next}
 use Rattle.isolation.specs.Reference.{firstCells, referenceNumbers, referenceCells}
 use Rattle.isolation.specs.Lists.{numbers, end, touched}
 use Rattle.isolation.specs.Merges.{Lists, answersTo, Merge, lastAccepted}
@@ -38,7 +39,7 @@ unfolding touched answersTo numbers
 some-party [] s e = (0, e)
 some-party (x ∷ l) s e =
     let ih = some-party l (next s x) in
-    split (accepted (refusalOf s x)) (λ a. (x .party, rw (eq-eqb (x .party) (x .party) refl, a)))
+    split (accepted (planned s x .refusal)) (λ a. (x .party, rw (eq-eqb (x .party) (x .party) refl, a)))
     (λ a.
     let w = ih (rw a at e) in
     (w .0, split (eqb (x .party) (w .0)) (λ b. rw (b, a) (w .1)) (λ b. rw b (w .1))))

@@ -5,20 +5,20 @@ use mathlib.Core.Bool.{Bool, cond, _||_}
 use mathlib.Core.List.{List, [], _∷_, flatten}
 use Rattle.cases.proofs.Cases.{split}
 use Rattle.refusal.specs.First.{accepted}
-use Rattle.protocol.specs.declared.Output.the-variants.{Empty}
+use Rattle.ads1299_serial.specs.declared.Output.the-variants.{Empty}
 use Rattle.ads1299.specs.declared.Converter.{Converter}
 use Rattle.ads1299.specs.State.{withRegisters, withOutput}
 use Rattle.ads1299.specs.Formed.{Formed}
 use Rattle.ads1299.specs.Run.{after}
 use Rattle.planner.specs.Submission.{Submission}
 use Rattle.planner.specs.Refusals.{Values}
-use Rattle.planner.specs.Planned.{refusalOf, changed, next, plan}
-use Rattle.planner.proofs.Accepted.{next-formed}
-use Rattle.planner.proofs.Sent.{after-append, sent-plan}
+use Rattle.planner.specs.Planned.{refusalOf, changed, plan, planned}
+use Rattle.planner.proofs.Accepted.{number-is, next, next-formed}
+use Rattle.demand2.proofs.Sent.{after-append, sent-plan}
 use Rattle.isolation.specs.Reference.{firstCells, cellsAfter, cellsFrom, numbersFrom}
 use Rattle.isolation.specs.Lists.{numbers, plans, end, touched}
 use Rattle.isolation.specs.Demand3.{AllFollowReference}
-use Rattle.isolation.proofs.Held.{Held, held-first, number-is, held-next}
+use Rattle.isolation.proofs.Held.{Held, held-first, refusal-is, held-next}
 
 pub held-end : (l : List Submission) (s t : Converter) (c : Values) → Held s t c → Held s (end t l) (cellsFrom s c l)
 unfolding end cellsFrom
@@ -28,20 +28,20 @@ held-end (x ∷ l) s t c k = held-end l s (next t x) (cellsAfter s c x) (held-ne
 pub numbers-are : (l : List Submission) (s t : Converter) (c : Values) → Held s t c → numbers t l ≡ numbersFrom s c l
 unfolding numbers numbersFrom
 numbers-are [] s t c k = refl
-numbers-are (x ∷ l) s t c k = rw (number-is s t c k x, numbers-are l s (next t x) (cellsAfter s c x) (held-next s t c k x))
+numbers-are (x ∷ l) s t c k = rw (number-is t x, refusal-is s t c k x, numbers-are l s (next t x) (cellsAfter s c x) (held-next s t c k x))
 
 -- the output
 rest-next : (s : Converter) (x : Submission) (l : List ℕ) (b : Bool)
     → withOutput (withRegisters (next s x) l) (cond b Empty (next s x .output))
     ≡ withOutput (withRegisters s l) (cond (accepted (refusalOf s x) || b) Empty (s .output))
-unfolding next changed
-rest-next s x l b = split (accepted (refusalOf s x)) (λ e. split b (λ q. rw (e, q)) (λ q. rw (e, q))) (λ e. rw e)
+unfolding planned changed
+rest-next s x l b = split (accepted (refusalOf s x)) (λ e. split b (λ q. rw (e, q, next)) (λ q. rw (e, q, next))) (λ e. rw (e, next))
 
 all-else : (l : List Submission) (s : Converter)
     → end s l ≡ withOutput (withRegisters s (end s l .registers)) (cond (touched (numbers s l)) Empty (s .output))
 unfolding end numbers touched
 all-else [] s = refl
-all-else (x ∷ l) s = all-else l (next s x) ∙ rest-next s x (end (next s x) l .registers) (touched (numbers (next s x) l))
+all-else (x ∷ l) s = rw (number-is s x) (all-else l (next s x) ∙ rest-next s x (end (next s x) l .registers) (touched (numbers (next s x) l)))
 
 -- the bytes
 sent-plans : (l : List Submission) (s : Converter) → Formed s → after s (flatten (plans s l)) ≡ end s l

@@ -11,12 +11,12 @@ use Rattle.bits.specs.Fields.{field}
 use Rattle.refusal.specs.First.{accepted}
 use Rattle.refusal.proofs.First.{exact}
 use Rattle.ads1299.specs.declared.Converter.{Converter}
-use Rattle.regmap.specs.Names.{named}
-use Rattle.regmap.specs.Places.{place, apart, bitAt}
-use Rattle.settings.specs.Registers.{readAt, fieldOf}
-use Rattle.regmap.specs.Layout.{Free, InField}
-use Rattle.regmap.proofs.Apart.{free-or-in}
-use Rattle.settings.proofs.Registers.{bit-of}
+use Rattle.ads1299_fields.specs.Names.{named}
+use Rattle.ads1299_fields.specs.Places.{place, apart, bitAt}
+use Rattle.ads1299_settings.specs.Registers.{readAt, fieldOf}
+use Rattle.ads1299_fields.specs.Layout.{Free, InField}
+use Rattle.ads1299_fields.proofs.Apart.{free-or-in}
+use Rattle.ads1299_settings.proofs.Registers.{bit-of}
 use Rattle.planner.specs.Submission.{Submission}
 use Rattle.planner.specs.Refusals.{Values, fieldOwner, refusals, judged}
 use Rattle.isolation.specs.Reference.{names, cellsAfter, cellsFrom, numbersFrom}

@@ -12,22 +12,22 @@ use Rattle.bits.specs.Fields.{field}
 use Rattle.bits.proofs.Fields.{same-bits}
 use Rattle.refusal.specs.First.{accepted}
 use Rattle.ads1299.specs.declared.Converter.{Converter}
-use Rattle.regmap.specs.Table.{table, rowOf}
-use Rattle.regmap.specs.Names.{channelField, named, everyName}
-use Rattle.regmap.specs.Places.{place, bitAt}
-use Rattle.settings.specs.Registers.{readAt, fieldByte}
-use Rattle.regmap.proofs.Names.{every-at}
-use Rattle.regmap.proofs.Apart.{place-inside, has}
-use Rattle.settings.proofs.Registers.{written}
+use Rattle.ads1299_fields.specs.Table.{table, rowOf}
+use Rattle.ads1299_fields.specs.Names.{channelField, named, everyName}
+use Rattle.ads1299_fields.specs.Places.{place, bitAt}
+use Rattle.ads1299_settings.specs.Registers.{readAt, fieldByte}
+use Rattle.ads1299_fields.proofs.Names.{every-at}
+use Rattle.ads1299_fields.proofs.Apart.{place-inside, has}
+use Rattle.ads1299_settings.proofs.Registers.{written}
 use Rattle.planner.specs.Submission.{Submission}
 use Rattle.planner.specs.Refusals.{Values, fieldOwner, judged}
 use Rattle.planner.specs.Plan.{planAround, planOf}
-use Rattle.planner.specs.Planned.{refusalOf, changed, next, plan}
-use Rattle.planner.proofs.Accepted.{Passed, passed}
+use Rattle.planner.specs.Planned.{refusalOf, changed, plan, planned}
+use Rattle.planner.proofs.Accepted.{next, Passed, passed}
 use Rattle.isolation.specs.Reference.{cellsAfter, numbersFrom}
 use Rattle.isolation.specs.Lists.{plans}
 use Rattle.isolation.specs.Merges.{from, answersTo, Own, spread, Alike, AllAlike, no-plans, more-plans}
-use Rattle.isolation.proofs.Held.{judged-own, Held, number-is, held-next}
+use Rattle.isolation.proofs.Held.{judged-own, Held, refusal-is, held-next}
 use Rattle.isolation.proofs.Own.{SameOwn, own-step, other-step, own-bit}
 
 -- a register that is not spread over the channels has one owner's fields alone: one computed test over every two names
@@ -55,11 +55,11 @@ module _ (s t : Converter) (c : Values) (k : Held s t c) (x : Submission) (p : P
   byte = fieldByte (t .registers) (x .request .field) (x .request .channel) (x .request .value)
 
   register-is : getD (next t x .registers) (place (x .request .field) (x .request .channel) .register) 0 ≡ byte
-  unfolding next changed
+  unfolding planned changed
   register-is =
       let r = place (x .request .field) (x .request .channel) .register in
       let lt : r < length (t .registers) = rw (k .formed .registers .size) (place-inside (x .request .field) (x .request .channel) (p .name) .in-list) in
-      rw (e, written (t .registers) (x .request .field) (x .request .channel) (x .request .value) (k .formed .registers .size) (p .set) .by-byte, getD-set-same)
+      rw (e, next, written (t .registers) (x .request .field) (x .request .channel) (x .request .value) (k .formed .registers .size) (p .set) .by-byte, getD-set-same)
 
   byte-bit : (i : ℕ) → field byte i 1 ≡ readAt (next t x .registers) (bitAt (place (x .request .field) (x .request .channel) .register) i)
   unfolding readAt
@@ -76,7 +76,7 @@ plan-is s t c d x k e = rw (e, ap (λ (u : Converter). u .standby) (k .rest), ap
 
 module _ (s : Converter) (d : Values) (x : Submission) where
   number-own : (t : Converter) (c : Values) → Held s t c → SameOwn s (x .party) c d → refusalOf t x ≡ judged s d x
-  number-own t c k same = number-is s t c k x ∙ judged-own s c d x same
+  number-own t c k same = refusal-is s t c k x ∙ judged-own s c d x same
 
   alike : (t u : Converter) (b c : Values) → Held s t b → Held s u c → SameOwn s (x .party) b d → SameOwn s (x .party) c d
       → Alike s x (judged s d x) (plan t x) (plan u x)

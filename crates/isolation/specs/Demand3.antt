@@ -13,24 +13,24 @@ use Prim.Native.Nat.{ℕ}
 use mathlib.Core.Path.{_≡_}
 use mathlib.Core.Bool.{true, cond}
 use mathlib.Core.List.{List, flatten}
-use Rattle.protocol.specs.declared.Output.the-variants.{Empty}
+use Rattle.ads1299_serial.specs.declared.Output.the-variants.{Empty}
 use Rattle.ads1299.specs.declared.Converter.{Converter}
 use Rattle.ads1299.specs.State.{withRegisters, withOutput}
 use Rattle.ads1299.specs.Formed.{Formed}
 use Rattle.ads1299.specs.Run.{after}
-use Rattle.regmap.specs.Names.{named}
-use Rattle.regmap.specs.Places.{bitAt}
-use Rattle.settings.specs.Registers.{readAt, fieldOf}
-use Rattle.regmap.specs.Layout.{Free}
+use Rattle.ads1299_fields.specs.Names.{named}
+use Rattle.ads1299_fields.specs.Places.{bitAt}
+use Rattle.ads1299_settings.specs.Registers.{readAt, fieldOf}
+use Rattle.ads1299_fields.specs.Layout.{Free}
 use Rattle.planner.specs.Submission.{Submission}
 use Rattle.planner.specs.Refusals.{fieldOwner}
 use Rattle.isolation.specs.Reference.{referenceNumbers, referenceCells}
 use Rattle.isolation.specs.Lists.{numbers, plans, end, touched}
 use Rattle.isolation.specs.Merges.{Lists, Merge, Interleaving, answersTo, lastAccepted, AllAlike}
 
--- A list of requests from a state: the numbers are the reference model's; each field ends as its cell; each bit of no field ends
+-- a list of requests from a state: the numbers are the reference model's; each field ends as its cell; each bit of no field ends
 -- as it began; and so does all else, but the output is empty once a request was accepted; the arrays keep their lengths; and a
--- second state, begun equal, that takes the accepted plans' bytes through the byte step ends equal.
+-- second state, begun equal, that takes the accepted plans' bytes through the byte step ends equal
 pub record FollowsReference (s : Converter) (l : List Submission) : Type 0 where
   pub reference-numbers : numbers s l ≡ referenceNumbers s l
   pub fields : (f n : ℕ) → named f n ≡ true → fieldOf (end s l .registers) f n ≡ referenceCells s l f n
@@ -39,9 +39,9 @@ pub record FollowsReference (s : Converter) (l : List Submission) : Type 0 where
   pub formed : Formed (end s l)
   pub sent : after s (flatten (plans s l)) ≡ end s l
 
--- Two merges of the same lists, from one state: every party's requests get the same numbers, which are the reference model's for
+-- two merges of the same lists, from one state: every party's requests get the same numbers, which are the reference model's for
 -- that party alone; the end is the same, with each field at its owner's last accepted value or its first, which is the reference
--- model's cell for the owner alone; and every party's requests get the same plans, but for other parties' bits.
+-- model's cell for the owner alone; and every party's requests get the same plans, but for other parties' bits
 pub record Agree (s : Converter) (lists : Lists) (l m : List Submission) : Type 0 where
   pub same-numbers : (p : ℕ) → answersTo p l (numbers s l) ≡ answersTo p m (numbers s m)
   pub own-numbers : (p : ℕ) → answersTo p l (numbers s l) ≡ referenceNumbers s (lists p)
@@ -63,6 +63,6 @@ MergesAgree =
     (s : Converter) → Formed s → (lists : Lists) (l m : List Submission) → Merge lists l → Merge lists m → Agree s lists l m
 
 -- A merge is what taking heads gives, and nothing else is.
-pub record MergesInterleave (lists : Lists) (l : List Submission) : Type 0 where
-  pub takes-heads : Merge lists l → Interleaving lists l
-  pub is-merge : Interleaving lists l → Merge lists l
+pub record MergesInterleave : Type 0 where
+  pub takes-heads : (lists : Lists) (l : List Submission) → Merge lists l → Interleaving lists l
+  pub is-merge : (lists : Lists) (l : List Submission) → Interleaving lists l → Merge lists l

@@ -1,15 +1,15 @@
 -- Worked figures: lists of two parties' requests for one register, in several orders and from several states.
 use Prim.Native.Nat.{ℕ}
-use mathlib.Core.Path.{_≡_}
 use mathlib.Core.Bool.{false}
-use mathlib.Core.List.{List, [], _∷_, map}
+use mathlib.Core.List.{List, [], _∷_}
 use lib.ListN.{getD}
-use Rattle.registers.specs.Addresses.{BIAS_SENSP}
-use Rattle.protocol.specs.declared.Direction.the-variants.{Read}
-use Rattle.protocol.specs.declared.Output.{Output}
-use Rattle.protocol.specs.declared.Output.the-variants.{Empty, At}
-use Rattle.protocol.specs.declared.Phase.the-variants.{Held}
-use Rattle.protocol.specs.Transfers.{transfer}
+use Rattle.cases.specs.Figures.{Hold}
+use Rattle.ads1299_registers.specs.Addresses.{BIAS_SENSP}
+use Rattle.ads1299_serial.specs.declared.Direction.the-variants.{Read}
+use Rattle.ads1299_serial.specs.declared.Output.{Output}
+use Rattle.ads1299_serial.specs.declared.Output.the-variants.{Empty, At}
+use Rattle.ads1299_serial.specs.declared.Phase.the-variants.{Held}
+use Rattle.ads1299_serial.specs.Transfers.{transfer}
 use Rattle.ads1299.specs.declared.Converter.{Converter}
 use Rattle.ads1299.specs.State.{withOwners, withOutput, withContinuous, withPhase}
 use Rattle.ads1299.specs.PowerUp.{poweredUp}
@@ -76,6 +76,6 @@ figures =
     ∷ row invalid (on 9 1 5 ∷ on 2 3 5 ∷ []) (13 ∷ 13 ∷ []) ([] ∷ [] ∷ []) 0x00 (At 3)
     ∷ []
 
--- every figure of the table is what the definitions give
+-- Every figure of the table is what the definitions give.
 abbrev pub FiguresHold : Type 0
-FiguresHold = map workedOut figures ≡ figures
+FiguresHold = Hold workedOut figures

@@ -7,9 +7,9 @@ use lib.Dec.{eqb, ltb}
 use Rattle.bits.specs.Fields.{field}
 use Rattle.refusal.specs.First.{accepted}
 use Rattle.ads1299.specs.declared.Converter.{Converter}
-use Rattle.regmap.specs.Table.{rowOf}
-use Rattle.regmap.specs.Names.{named}
-use Rattle.regmap.specs.Places.{place, apart, bitAt}
+use Rattle.ads1299_fields.specs.Table.{rowOf}
+use Rattle.ads1299_fields.specs.Names.{named}
+use Rattle.ads1299_fields.specs.Places.{place, apart, bitAt}
 use Rattle.planner.specs.Submission.{Submission}
 use Rattle.planner.specs.Refusals.{fieldOwner}
 use Rattle.planner.specs.Plan.{planAround}

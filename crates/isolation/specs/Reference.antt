@@ -4,8 +4,8 @@ use mathlib.Core.Bool.{Bool, cond, _&&_}
 use mathlib.Core.List.{List, [], _∷_}
 use Rattle.refusal.specs.First.{accepted}
 use Rattle.ads1299.specs.declared.Converter.{Converter}
-use Rattle.settings.specs.Registers.{fieldOf}
-use Rattle.regmap.specs.Layout.{same}
+use Rattle.ads1299_settings.specs.Registers.{fieldOf}
+use Rattle.ads1299_fields.specs.Layout.{same}
 use Rattle.planner.specs.Submission.{Submission}
 use Rattle.planner.specs.Refusals.{Values, judged}
 

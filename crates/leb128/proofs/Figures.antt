@@ -2,8 +2,8 @@
 use mathlib.Core.Path.{refl}
 use Rattle.leb128.specs.Encoding.{encoded}
 use Rattle.leb128.specs.Decoding.{decoded}
-use Rattle.leb128.specs.Figures.{figures, FiguresHold}
+use Rattle.leb128.specs.Figures.{FiguresHold}
 
 pub figures-hold : FiguresHold
-unfolding figures decoded encoded
+unfolding decoded encoded
 figures-hold = refl

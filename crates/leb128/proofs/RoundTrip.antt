@@ -15,7 +15,7 @@ use Rattle.refusal.specs.First.{accepted}
 use Rattle.leb128.specs.Numbers.{base, largest, found}
 use Rattle.leb128.specs.Encoding.{encoded}
 use Rattle.leb128.specs.Decoding.{decoded}
-use Rattle.leb128.specs.RoundTrip.{Counted, ReadsBack, WritesBack, RoundTrip}
+use Rattle.leb128.specs.RoundTrip.{Counted, ReadsBack, WritesBack, RoundTrips}
 use Rattle.cases.proofs.Cases.{split, and-both}
 use Rattle.leb128.proofs.Groups.{encoded-last, encoded-more, decoded-last, decoded-more, join, parts}
 
@@ -107,7 +107,7 @@ writes-back (suc k) (b ∷ bs) ab e =
       same = rw (encoded-more k n (omega arith), low, high, add-one) (ap (λ (l : List ℕ). b ∷ l) (w .same));
     }))
 
-pub round-trip : (k : ℕ) → 0 < k → RoundTrip k
+pub round-trip : RoundTrips
 round-trip zero h = absurd (not-suc-le-zero h)
 round-trip (suc k) h =
     record {

@@ -1,9 +1,9 @@
 -- Worked figures: bytes, and what is read from them and written as them.
 use mathlib.Core.Bool.{cond}
-use mathlib.Core.List.{List, [], _∷_, map}
-use mathlib.Core.Path.{_≡_}
+use mathlib.Core.List.{List, [], _∷_, _++_}
 use Prim.Native.Nat.{ℕ}
-use lib.ListN.{take}
+use lib.ListN.{drop}
+use Rattle.cases.specs.Figures.{Hold}
 use Rattle.refusal.specs.First.{accepted}
 use Rattle.refusal.specs.Numbers.{truncated, malformed}
 use Rattle.leb128.specs.declared.Number.{Number}
@@ -20,8 +20,8 @@ pub record Row : Type 0 where
 abbrev row : List ℕ → Number → Row
 row bytes number = record { bytes = bytes; number = number }
 
--- numbers at the ends of each length, then each kind of fault
-unfoldable pub figures : List Row
+-- gives the table: numbers at the ends of each length, then each kind of fault
+abbrev pub figures : List Row
 figures =
     row (0x00 ∷ []) (found 0 1)
     ∷ row (0x7F ∷ []) (found 127 1)
@@ -40,7 +40,10 @@ figures =
 abbrev bytesOf : Number → List ℕ
 bytesOf number = cond (accepted (number .refusal)) (encoded groups (number .value)) []
 
--- Every row's bytes are read as its answer, and the answer's number is written as the bytes it took.
+-- gives a figure worked out anew: the answer from the bytes, and from the answer the bytes that it took, with the others after them
+abbrev pub workedOut : Row → Row
+workedOut r = row (bytesOf (r .number) ++ drop (r .number .used) (r .bytes)) (decoded groups (r .bytes))
+
+-- Every figure of the table is what the definitions give.
 abbrev pub FiguresHold : Type 0
-FiguresHold =
-    map (λ (r : Row). row (bytesOf (r .number)) (decoded groups (r .bytes))) figures ≡ map (λ (r : Row). row (take (r .number .used) (r .bytes)) (r .number)) figures
+FiguresHold = Hold workedOut figures

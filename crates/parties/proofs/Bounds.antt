@@ -1,22 +1,9 @@
--- From the tests of a party and of a channel to their bounds. Assumes nothing.
+-- From the test of a party to its bound. Assumes nothing.
 use Prim.Native.Nat.{ℕ, _≤_}
 use mathlib.Core.Path.{_≡_}
 use mathlib.Core.Bool.{true}
 use borrow.Author.Tests.{leb-true}
-use lib.Dec.{leb}
-use Rattle.cases.proofs.Cases.{and-both}
-use Rattle.registers.specs.Addresses.{channelCount}
 use Rattle.parties.specs.Parties.{largestParty, knownParty}
-use Rattle.parties.specs.Channels.{isChannel}
-
-pub record Bounds (channel : ℕ) : Type 0 where
-  pub low : 1 ≤ channel
-  pub high : channel ≤ channelCount
-
-pub bounds : (channel : ℕ) → isChannel channel ≡ true → Bounds channel
-bounds channel e =
-    let b = and-both (leb 1 channel) (leb channel channelCount) e in
-    record { low = leb-true _ _ (b .0); high = leb-true _ _ (b .1) }
 
 pub party-bound : (party : ℕ) → knownParty party ≡ true → party ≤ largestParty
 unfolding knownParty

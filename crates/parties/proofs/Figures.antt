@@ -1,7 +1,6 @@
 -- The figures hold, by computation. Assumes nothing.
 use mathlib.Core.Path.{refl}
 use Rattle.parties.specs.Parties.{knownParty, isAdmin}
-use Rattle.parties.specs.Channels.{isChannel}
 use Rattle.parties.specs.Owners.{ownerOf, owns}
 use Rattle.parties.specs.Figures.{FiguresHold}
 

@@ -1,17 +1,15 @@
--- Parties, channels and owners at the ends of their ranges, in one table.
+-- Parties and owners at the ends of their ranges, in one table.
 use Prim.Native.Nat.{ℕ}
-use mathlib.Core.Path.{_≡_}
 use mathlib.Core.Bool.{Bool, true, false}
-use mathlib.Core.List.{List, [], _∷_, map}
+use mathlib.Core.List.{List, [], _∷_}
+use Rattle.cases.specs.Figures.{Hold}
 use Rattle.parties.specs.Parties.{knownParty, isAdmin}
-use Rattle.parties.specs.Channels.{isChannel}
 use Rattle.parties.specs.Owners.{knownOwners, owns}
 
 -- A test, by what it is given, and its answer.
 pub data Figure : Type 0 where
   known : ℕ → Bool → Figure
   administrator : ℕ → Bool → Figure
-  channel : ℕ → Bool → Figure
   entries : List ℕ → Bool → Figure
   owner : ℕ → ℕ → Bool → Figure
 
@@ -23,7 +21,6 @@ owners = 8 ∷ 0 ∷ 0 ∷ 0 ∷ 0 ∷ 0 ∷ 0 ∷ 1 ∷ []
 abbrev pub workedOut : Figure → Figure
 workedOut (known party answer) = known party (knownParty party)
 workedOut (administrator party answer) = administrator party (isAdmin party)
-workedOut (channel number answer) = channel number (isChannel number)
 workedOut (entries list answer) = entries list (knownOwners list)
 workedOut (owner party number answer) = owner party number (owns owners party number)
 
@@ -32,11 +29,10 @@ abbrev pub figures : List Figure
 figures =
     known 0 true ∷ known 8 true ∷ known 9 false ∷ known 256 false
     ∷ administrator 0 true ∷ administrator 1 false
-    ∷ channel 0 false ∷ channel 1 true ∷ channel 8 true ∷ channel 9 false ∷ channel 257 false
     ∷ entries owners true ∷ entries (0 ∷ 0 ∷ 0 ∷ 0 ∷ 0 ∷ 0 ∷ 0 ∷ 9 ∷ []) false ∷ entries (9 ∷ 0 ∷ 0 ∷ 0 ∷ 0 ∷ 0 ∷ 0 ∷ 0 ∷ []) false
     ∷ owner 8 1 true ∷ owner 0 1 false ∷ owner 1 8 true ∷ owner 8 8 false ∷ owner 0 7 true
     ∷ []
 
--- every figure of the table is what the definitions give
+-- Every figure of the table is what the definitions give.
 abbrev pub FiguresHold : Type 0
-FiguresHold = map workedOut figures ≡ figures
+FiguresHold = Hold workedOut figures

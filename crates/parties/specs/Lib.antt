@@ -1,4 +1,3 @@
 pub mod Parties
-pub mod Channels
 pub mod Owners
 pub mod Figures

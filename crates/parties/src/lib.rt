@@ -1,10 +1,8 @@
-// Parties, channels and who owns what, by number (document 01, "The bench and its parties"). Numbers are judged as they come: none
-// is cut to a byte before.
+// Parties and who owns what, by number (document 01, "The bench and its parties"). Numbers are judged as they come: none is cut to
+// a byte before.
 ghost use mathlib.Core.Path.{_≡_};
 ghost use Rattle.parties.specs.Parties.{knownParty, isAdmin};
-ghost use Rattle.parties.specs.Channels.{isChannel};
 ghost use Rattle.parties.specs.Owners.{knownOwners, ownerOf, owns};
-use registers::CHANNELS;
 
 pub const ADMIN: u8 = 0; // document 01: the keeper
 
@@ -23,23 +21,12 @@ pub fn is_admin(party: u32) -> bool
     party == ADMIN as u32
 }
 
-// Whether there is a channel of this number.
-pub fn is_channel(channel: u32) -> bool
-    ensures { λ r. ⌜ r ≡ isChannel channel ⌝ }
-{
-    if 1 <= channel {
-        channel <= CHANNELS as u32
-    } else {
-        false
-    }
-}
-
 // Whether every owner is a party.
-pub fn are_known(owners: [u8; CHANNELS]) -> bool
-    ensures { λ r. ⌜ r ≡ knownOwners owners ⌝ }
+pub fn are_known(owners: &[u8]) -> bool
+    ensures { λ r. ⌜ r ≡ knownOwners (now (owners .entry)) ⌝ }
 {
     let mut i: usize = 0;
-    while i < CHANNELS {
+    while i < owners.len() {
         if LARGEST < owners[i] {
             return false;
         }
@@ -49,19 +36,20 @@ pub fn are_known(owners: [u8; CHANNELS]) -> bool
 }
 
 // The owner of a channel. Channel 0 counts as 1, and a channel with no entry as the administrator's.
-fn owner(owners: [u8; CHANNELS], channel: u32) -> u8
-    ensures { λ r. ⌜ r ≡ ownerOf owners channel ⌝ }
+fn owner(owners: &[u8], channel: u32) -> u8
+    ensures { λ r. ⌜ r ≡ ownerOf (now (owners .entry)) channel ⌝ }
 {
-    if channel == 0 {
-        return owners[0];
-    }
-    let at = channel as usize - 1;
-    if at < CHANNELS { owners[at] } else { ADMIN }
+    let at = if channel == 0 {
+        0
+    } else {
+        channel as usize - 1
+    };
+    if at < owners.len() { owners[at] } else { ADMIN }
 }
 
 // Whether a party owns a channel.
-pub fn is_owner(owners: [u8; CHANNELS], party: u32, channel: u32) -> bool
-    ensures { λ r. ⌜ r ≡ owns owners party channel ⌝ }
+pub fn is_owner(owners: &[u8], party: u32, channel: u32) -> bool
+    ensures { λ r. ⌜ r ≡ owns (now (owners .entry)) party channel ⌝ }
 {
     party == owner(owners, channel) as u32
 }

@@ -1,35 +1,52 @@
 -- What an accepted request has passed, and that it changes no later judgement. Assumes nothing.
 use Prim.Native.Nat.{ℕ, _≤_}
 use mathlib.Core.Path.{_≡_, refl, sym, _∙_, fun-ext}
-use mathlib.Core.Bool.{true, false≢true}
+use mathlib.Core.Bool.{true, false, false≢true}
 use native.Mathlib.Omega.{arith}
-use borrow.Author.Tests.{not-false, eqb-true, ltb-false}
+use borrow.Author.Tests.{not-false, eqb-true, eq-eqb, ne-eqb, ltb-false}
 use lib.Dec.{eqb}
 use lib.ListN.{getD}
 use lib.Seq.{getD-set-other}
 use Rattle.cases.proofs.Cases.{split}
+use Rattle.refusal.specs.Numbers.{none}
 use Rattle.refusal.specs.First.{accepted}
 use Rattle.refusal.proofs.First.{exact}
-use Rattle.registers.specs.Addresses.{ID}
-use Rattle.protocol.specs.declared.Phase.{Phase}
-use Rattle.protocol.specs.declared.Phase.the-variants.{Waiting, Held, Counting}
-use Rattle.protocol.specs.Transfers.{isWaiting}
+use Rattle.ads1299_registers.specs.Addresses.{ID}
+use Rattle.ads1299_serial.specs.declared.Phase.{Phase}
+use Rattle.ads1299_serial.specs.declared.Phase.the-variants.{Waiting, Held, Counting}
+use Rattle.ads1299_serial.specs.Transfers.{isWaiting}
 use Rattle.ads1299.specs.declared.Converter.{Converter}
 use Rattle.ads1299.specs.Formed.{Formed}
 use Rattle.ads1299.specs.Validity.{valid}
 use Rattle.ads1299.proofs.ValidState.{parts, whole}
 use Rattle.parties.specs.Parties.{knownParty}
-use Rattle.regmap.specs.Names.{isField, takesChannel, named}
-use Rattle.regmap.specs.Places.{place}
-use Rattle.fields.specs.Values.{legal, settable}
-use Rattle.settings.specs.Registers.{withField, fieldByte}
-use Rattle.regmap.proofs.Apart.{place-inside}
-use Rattle.settings.proofs.Registers.{legal-settable, written}
+use Rattle.ads1299_fields.specs.Names.{isField, takesChannel, named}
+use Rattle.ads1299_fields.specs.Places.{place}
+use Rattle.ads1299_fields.specs.Values.{legal, settable}
+use Rattle.ads1299_settings.specs.Registers.{withField, fieldByte}
+use Rattle.ads1299_fields.proofs.Apart.{place-inside}
+use Rattle.ads1299_settings.proofs.Registers.{legal-settable, written}
 use Rattle.planner.specs.Submission.{Submission}
 use Rattle.planner.specs.Plan.{planLength}
 use Rattle.planner.specs.Refusals.{fieldOwner, refusals, judged}
-use Rattle.planner.specs.Planned.{refusalOf, changed, next}
+use Rattle.planner.specs.Planned.{refusalOf, changed, planned}
 
+-- the state that the planner answers
+abbrev pub next : Converter → Submission → Converter
+next s x = planned s x .next
+
+-- the number answered is the refusal
+pub number-is : (s : Converter) (x : Submission) → planned s x .refusal ≡ refusalOf s x
+unfolding planned
+number-is s x = split (accepted (refusalOf s x)) (λ e. rw e (sym (eqb-true _ _ e))) (λ e. rw e)
+
+pub accepted-is : (s : Converter) (x : Submission) → planned s x .refusal ≡ none → accepted (refusalOf s x) ≡ true
+accepted-is s x z = eq-eqb _ _ (sym (number-is s x) ∙ z)
+
+pub refused-is : (s : Converter) (x : Submission) → (planned s x .refusal ≡ none → ⊥) → accepted (refusalOf s x) ≡ false
+refused-is s x z = ne-eqb _ _ (λ e. z (number-is s x ∙ e))
+
+-- what an accepted request has passed
 pub record Passed (s : Converter) (x : Submission) : Type 0 where
   pub state : valid s ≡ true
   pub party : knownParty (x .party) ≡ true
@@ -89,15 +106,15 @@ module _ (s : Converter) (x : Submission) (h : Formed s) (p : Passed s x) where
         shifting = h .shifting;
       }
 
-  changed-valid : valid (changed s x) ≡ true
+  pub changed-valid : valid (changed s x) ≡ true
   unfolding changed
   changed-valid =
       let v = parts s (p .state) in
       whole _ (record { id = rw id-kept (v .id); place = refl; phase = rw (p .waits); owners = v .owners })
 
 pub next-formed : (s : Converter) (x : Submission) → Formed s → Formed (next s x)
-unfolding next
-next-formed s x h = split (accepted (refusalOf s x)) (λ e. rw e (changed-formed s x h (passed s x e))) (λ e. rw e h)
+unfolding planned
+next-formed s x h = split (accepted (refusalOf s x)) (λ e. rw (e, next) (changed-formed s x h (passed s x e))) (λ e. rw (e, next) h)
 
 -- the tests read of a state its validity, owners, phase and modes alone
 same-judged : (s : Converter) (y : Submission) → valid (changed s y) ≡ valid s → judged (changed s y) ≡ judged s
@@ -105,8 +122,8 @@ unfolding judged changed
 same-judged s y e = fun-ext (λ values. fun-ext (λ x. rw e))
 
 pub judged-next : (s : Converter) (x : Submission) → Formed s → judged (next s x) ≡ judged s
-unfolding next
+unfolding planned
 judged-next s x h =
     split (accepted (refusalOf s x))
-    (λ e. let p = passed s x e in rw e (same-judged s x (changed-valid s x h p ∙ sym (p .state))))
-    (λ e. rw e)
+    (λ e. let p = passed s x e in rw (e, next) (same-judged s x (changed-valid s x h p ∙ sym (p .state))))
+    (λ e. rw (e, next))

@@ -1,40 +1,32 @@
--- A plan in the transmit buffer, and what the planner's parts hand back. Assumes nothing.
+-- A plan in the transmit buffer, and what the planner's parts hand back.
 use Prim.Native.Nat.{ℕ, _+_, _-_, _<_, _≤_}
 use mathlib.Core.Path.{_≡_, _∙_, ap}
 use mathlib.Core.Bool.{true, false}
-use mathlib.Core.List.{List, [], append-nil, append-assoc}
+use mathlib.Core.List.{List}
 use native.Mathlib.Omega.{arith}
 use borrow.Author.Tests.{eq-eqb, ne-eqb}
 use borrow.Rule.Slice.PartMut.{putMid}
-use lib.ListN.{length, take, drop, length-drop, drop-of-length-le}
-use lib.Seq.{take-all, drop-drop}
+use lib.ListN.{length, take, drop, length-drop}
+use lib.Seq.{take-all}
+use Rattle.splice.specs.Splice.{spliced}
+use Rattle.splice.proofs.Splice.{part-spliced}
 use Rattle.refusal.specs.Numbers.{none}
 use Rattle.refusal.specs.First.{accepted}
-use Rattle.registers.specs.Addresses.{registerCount}
-use Rattle.protocol.specs.declared.Output.the-variants.{Empty}
+use Rattle.ads1299_registers.specs.Addresses.{registerCount}
+use Rattle.ads1299_serial.specs.declared.Output.the-variants.{Empty}
 use Rattle.ads1299.specs.declared.Converter.{Converter}
 use Rattle.ads1299.specs.State.{withRegisters, withOutput}
-use Rattle.regmap.specs.declared.Place.{Place}
-use Rattle.regmap.specs.Places.{place}
-use Rattle.settings.specs.Registers.{withField, fieldByte}
-use Rattle.regmap.proofs.Apart.{place-inside}
+use Rattle.ads1299_fields.specs.declared.Place.{Place}
+use Rattle.ads1299_fields.specs.Places.{place}
+use Rattle.ads1299_settings.specs.Registers.{withField, fieldByte}
+use Rattle.ads1299_fields.proofs.Apart.{place-inside}
 use Rattle.planner.specs.declared.Planned.{Planned}
 use Rattle.planner.specs.Submission.{Submission, roomAt}
-use Rattle.planner.specs.Plan.{planOf, planLength}
+use Rattle.planner.specs.Plan.{around, writing, planOf, planLength}
 use Rattle.planner.specs.Planned.{refusalOf, changed, planned}
-use Rattle.planner.specs.Buffer.{laid, txAfter}
-use Rattle.planner.specs.Writer.{planBytes, overlaid}
+use Rattle.planner.specs.Buffer.{txAfter}
 use Rattle.planner.proofs.Accepted.{passed}
 use Rattle.planner.proofs.Length.{plan-length}
-
--- bytes laid over a part that runs to the end
-pub put-part : (at : ℕ) (tx bytes part : List ℕ) → at + length bytes ≤ length tx → part ≡ overlaid (take (length tx - at) (drop at tx)) bytes
-    → putMid at (length tx - at) tx part ≡ laid tx at bytes
-put-part at tx bytes part h e =
-    let l = length-drop at tx in
-    let a : take (length tx - at) (drop at tx) ≡ drop at tx = take-all (length tx - at) (drop at tx) (omega arith) in
-    let b : drop (length tx - at) (drop at tx) ≡ [] = drop-of-length-le (drop at tx) {i = length tx - at} (omega arith) in
-    simp (e, a, b, append-nil, drop-drop, append-assoc)
 
 module _ (s : Converter) (x : Submission) (tx : List ℕ) (at : ℕ) where
   pub refused : (n : ℕ) → n ≡ refusalOf s x → (n ≡ none → ⊥)
@@ -53,22 +45,22 @@ module _ (s : Converter) (x : Submission) (tx : List ℕ) (at : ℕ) where
     start-within = let h = within in omega arith
 
     module _ (k : Place) (byte : ℕ) (ek : k ≡ place (x .request .field) (x .request .channel)) (eb : byte ≡ fieldByte (s .registers) (x .request .field) (x .request .channel) (x .request .value)) where
-      plan-bytes : planBytes (s .standby) (s .continuous) (k .register) byte ≡ planOf s (x .request)
+      plan-bytes : around (s .standby) (s .continuous) (writing (k .register) byte) ≡ planOf s (x .request)
       unfolding planOf
       plan-bytes = rw (ek, eb)
 
-      bytes-length : length (planBytes (s .standby) (s .continuous) (k .register) byte) ≡ planLength s
+      bytes-length : length (around (s .standby) (s .continuous) (writing (k .register) byte)) ≡ planLength s
       bytes-length = ap length plan-bytes ∙ plan-length s (x .request)
 
-      pub in-part : (k .register < registerCount) × (length (planBytes (s .standby) (s .continuous) (k .register) byte) ≤ length (take (length tx - at) (drop at tx)))
+      pub in-part : (k .register < registerCount) × (length (around (s .standby) (s .continuous) (writing (k .register) byte)) ≤ length (take (length tx - at) (drop at tx)))
       in-part =
           let p = passed s x (eq-eqb _ _ z) in
           let l = length-drop at tx in
           let h = within in
           (rw ek (place-inside (x .request .field) (x .request .channel) (p .name) .in-list), rw (bytes-length, take-all (length tx - at) (drop at tx) (omega arith)) (omega arith))
 
-      pub planned-in : (n : ℕ) (t : Converter) (part : List ℕ) → n ≡ length (planBytes (s .standby) (s .continuous) (k .register) byte)
-          → part ≡ overlaid (take (length tx - at) (drop at tx)) (planBytes (s .standby) (s .continuous) (k .register) byte)
+      pub planned-in : (n : ℕ) (t : Converter) (part : List ℕ) → n ≡ length (around (s .standby) (s .continuous) (writing (k .register) byte))
+          → part ≡ spliced (take (length tx - at) (drop at tx)) 0 (around (s .standby) (s .continuous) (writing (k .register) byte))
           → t ≡ withOutput (withRegisters s (withField (s .registers) (x .request .field) (x .request .channel) (x .request .value))) Empty
           → (_≡_ {A = Planned} (record { refusal = none; length = n; next = t }) (planned s x)) × (putMid at (length tx - at) tx part ≡ txAfter s x tx at)
       unfolding planned txAfter changed
@@ -76,5 +68,5 @@ module _ (s : Converter) (x : Submission) (tx : List ℕ) (at : ℕ) where
           let f : accepted (refusalOf s x) ≡ true = eq-eqb _ _ z in
           let e = en ∙ bytes-length in (
             rw f (λ i. record { refusal = none; length = e i; next = et i }),
-            rw f (put-part at tx (planOf s (x .request)) part (omega (arith, within, plan-length s (x .request))) (rw plan-bytes at ep)),
+            rw f (part-spliced at tx (planOf s (x .request)) part (omega (arith, within, plan-length s (x .request))) (rw plan-bytes at ep)),
           )

@@ -1,14 +1,18 @@
--- A plan's length is the one that refusal 9 goes by. Assumes nothing.
-use mathlib.Core.Path.{_≡_}
-use lib.ListN.{length}
+-- A plan's length, by the four modes.
 use Rattle.cases.proofs.Cases.{split}
-use Rattle.request.specs.declared.Request.{Request}
-use Rattle.ads1299.specs.declared.Converter.{Converter}
-use Rattle.planner.specs.Plan.{planOf, planLength}
+use native.Mathlib.Omega.{arith}
+use Rattle.planner.specs.Plan.{planOf}
+use Rattle.planner.specs.Lengths.{PlansCounted, PlansFit}
 
-pub plan-length : (s : Converter) (r : Request) → length (planOf s r) ≡ planLength s
+pub plan-length : PlansCounted
 unfolding planOf
 plan-length s r =
     split (s .standby)
     (λ a. split (s .continuous) (λ b. rw (a, b)) (λ b. rw (a, b)))
     (λ a. split (s .continuous) (λ b. rw (a, b)) (λ b. rw (a, b)))
+
+pub plans-fit : PlansFit
+plans-fit s =
+    split (s .standby)
+    (λ a. split (s .continuous) (λ b. rw (a, b) (omega arith)) (λ b. rw (a, b) (omega arith)))
+    (λ a. split (s .continuous) (λ b. rw (a, b) (omega arith)) (λ b. rw (a, b) (omega arith)))

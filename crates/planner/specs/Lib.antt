@@ -1,10 +1,8 @@
 pub mod Submission
-pub mod Refusals
 pub mod Plan
+pub mod Refusals
 pub mod Planned
 pub mod Buffer
-pub mod Writer
-pub mod Demand1
-pub mod Demand2
+pub mod Lengths
 pub mod Placement
 pub mod Figures

@@ -11,13 +11,13 @@ use Rattle.planner.specs.Plan.{planLength}
 use Rattle.planner.specs.Planned.{plan, planned}
 use Rattle.planner.specs.Buffer.{txAfter}
 
--- An accepted request's plan lies in the buffer from the place on; every byte before and after it is as it was.
+-- the plan lies in the buffer from the place on; every byte before and after it is as it was
 pub record Laid (s : Converter) (x : Submission) (tx : List ℕ) (at : ℕ) : Type 0 where
   pub bytes : take (planLength s) (drop at (txAfter s x tx at)) ≡ plan s x
   pub before : take at (txAfter s x tx at) ≡ take at tx
   pub after : drop (at + planLength s) (txAfter s x tx at) ≡ drop (at + planLength s) tx
 
--- The buffer keeps its length, and a refused request leaves it as it was.
+-- the buffer keeps its length; an accepted request's plan lies in it, and a refused request leaves it as it was
 pub record Placed (s : Converter) (x : Submission) (tx : List ℕ) (at : ℕ) : Type 0 where
   pub size : length (txAfter s x tx at) ≡ length tx
   pub accepted : planned s x .refusal ≡ none → Laid s x tx at

@@ -4,10 +4,10 @@ use mathlib.Core.Bool.{cond}
 use mathlib.Core.List.{List, []}
 use Rattle.refusal.specs.Numbers.{none}
 use Rattle.refusal.specs.First.{accepted}
-use Rattle.protocol.specs.declared.Output.the-variants.{Empty}
+use Rattle.ads1299_serial.specs.declared.Output.the-variants.{Empty}
 use Rattle.ads1299.specs.declared.Converter.{Converter}
 use Rattle.ads1299.specs.State.{withRegisters, withOutput}
-use Rattle.settings.specs.Registers.{fieldOf, withField}
+use Rattle.ads1299_settings.specs.Registers.{fieldOf, withField}
 use Rattle.planner.specs.declared.Planned.{Planned}
 use Rattle.planner.specs.Submission.{Submission}
 use Rattle.planner.specs.Plan.{planOf, planLength}
@@ -21,10 +21,6 @@ refusalOf s x = judged s (fieldOf (s .registers)) x
 unfoldable pub changed : Converter → Submission → Converter
 changed s x =
     withOutput (withRegisters s (withField (s .registers) (x .request .field) (x .request .channel) (x .request .value))) Empty
-
--- gives the state after the request: as it was, where it is refused
-unfoldable pub next : Converter → Submission → Converter
-next s x = cond (accepted (refusalOf s x)) (changed s x) s
 
 -- gives the request's plan, or no bytes where it is refused
 unfoldable pub plan : Converter → Submission → List ℕ

@@ -5,14 +5,14 @@ use mathlib.Core.List.{List, [], _∷_}
 use lib.Dec.{eqb, ltb}
 use Rattle.refusal.specs.Numbers.{unknownParty, unknownField, wrongChannel, notOwner, badValue, notWaiting, noRoom, invalidState}
 use Rattle.refusal.specs.First.{firstOf}
-use Rattle.protocol.specs.Transfers.{isWaiting}
+use Rattle.ads1299_serial.specs.Transfers.{isWaiting}
 use Rattle.ads1299.specs.declared.Converter.{Converter}
 use Rattle.parties.specs.Parties.{admin}
 use Rattle.ads1299.specs.Validity.{valid}
 use Rattle.parties.specs.Parties.{knownParty}
 use Rattle.parties.specs.Owners.{ownerOf}
-use Rattle.regmap.specs.Names.{isField, channelField, takesChannel}
-use Rattle.fields.specs.Values.{legal}
+use Rattle.ads1299_fields.specs.Names.{isField, channelField, takesChannel}
+use Rattle.ads1299_fields.specs.Values.{legal}
 use Rattle.planner.specs.Submission.{Submission}
 use Rattle.planner.specs.Plan.{planLength}
 

@@ -3,21 +3,27 @@ ghost use mathlib.Core.Path.{_≡_};
 ghost use Prim.Native.Nat.{_<_, _≤_};
 ghost use lib.Dec.{eqb};
 ghost use lib.ListN.{length};
-ghost use Rattle.registers.specs.Addresses.{registerCount};
-ghost use Rattle.protocol.specs.Transfers.{isWaiting};
+ghost use Rattle.ads1299_registers.specs.Addresses.{registerCount};
 ghost use Rattle.ads1299.specs.State.{withRegisters, withOutput};
 ghost use Rattle.ads1299.specs.Formed.{Formed};
-ghost use Rattle.settings.specs.Registers.{withField};
+ghost use Rattle.ads1299_settings.specs.Registers.{withField};
 ghost use Rattle.planner.specs.Submission.{roomAt, submission};
 ghost use Rattle.planner.specs.Refusals.{fieldOwner};
-ghost use Rattle.planner.specs.Plan.{planLength};
+ghost use Rattle.planner.specs.Plan.{around, writing, planLength};
 ghost use Rattle.planner.specs.Planned.{refusalOf, planned};
 ghost use Rattle.planner.specs.Buffer.{txAfter};
-ghost use Rattle.planner.specs.Writer.{planBytes, overlaid};
+ghost use Rattle.splice.specs.Splice.{spliced};
 use ads1299::Converter;
-use protocol::Output;
-use protocol::Phase;
+use ads1299_commands::RDATAC;
+use ads1299_commands::SDATAC;
+use ads1299_commands::STANDBY;
+use ads1299_commands::WAKEUP;
+use ads1299_commands::WREG;
+use ads1299_serial::Output;
 use request::Request;
+
+// The most bytes of a plan.
+pub const LONGEST: usize = 7;
 
 // The plan's length and the state after the plan, whose bytes are not to be fed to that state again.
 pub struct Planned {
@@ -27,23 +33,18 @@ pub struct Planned {
 }
 
 // The owner of a channel field is the channel's, that of a shared field the administrator.
-fn is_field_owner(owners: [u8; registers::CHANNELS], party: u32, field: u32, channel: u32) -> bool
+fn is_field_owner(
+    owners: [u8; ads1299_registers::CHANNELS],
+    party: u32,
+    field: u32,
+    channel: u32,
+) -> bool
     ensures { λ r. ⌜ r ≡ eqb party (fieldOwner owners field channel) ⌝ }
 {
-    if fields::is_channel_field(field) {
-        parties::is_owner(owners, party, channel)
+    if ads1299_fields::is_channel_field(field) {
+        parties::is_owner(&owners, party, channel)
     } else {
         parties::is_admin(party)
-    }
-}
-
-fn is_waiting(phase: Phase) -> bool
-    ensures { λ r. ⌜ r ≡ isWaiting phase ⌝ }
-{
-    match phase {
-        Phase::Waiting => true,
-        Phase::Held(_) => false,
-        Phase::Counting(_) => false,
     }
 }
 
@@ -69,69 +70,55 @@ fn count_room(tx: &[u8], at: usize) -> usize
 fn refuse(c: Converter, party: u32, request: Request, room: usize) -> u8
     ensures { λ r. ⌜ r ≡ refusalOf c (record { party = party; request = request; room = room }) ⌝ }
 {
-    if !c.is_valid() {
-        return refusal::INVALID_STATE;
-    }
-    if !parties::is_known(party) {
-        return refusal::UNKNOWN_PARTY;
-    }
-    if !fields::is_field(request.field) {
-        return refusal::UNKNOWN_FIELD;
-    }
-    if !fields::takes_channel(request.field, request.channel) {
-        return refusal::WRONG_CHANNEL;
-    }
     let owners = c.owners;
-    if !is_field_owner(owners, party, request.field, request.channel) {
-        return refusal::NOT_OWNER;
-    }
-    if !fields::is_legal(request.field, request.value) {
-        return refusal::BAD_VALUE;
-    }
     let phase = c.phase;
-    if !is_waiting(phase) {
-        return refusal::NOT_WAITING;
-    }
-    if room < plan_length(c) {
-        return refusal::NO_ROOM;
-    }
-    refusal::NONE
+    let valid = c.is_valid();
+    let known = parties::is_known(party);
+    let field = ads1299_fields::is_field(request.field);
+    let channel = ads1299_fields::takes_channel(request.field, request.channel);
+    let owner = is_field_owner(owners, party, request.field, request.channel);
+    let legal = ads1299_fields::is_legal(request.field, request.value);
+    let waiting = ads1299_serial::is_waiting(phase);
+    let needed = plan_length(c);
+    let numbers = [
+        refusal::when(!valid, refusal::INVALID_STATE),
+        refusal::when(!known, refusal::UNKNOWN_PARTY),
+        refusal::when(!field, refusal::UNKNOWN_FIELD),
+        refusal::when(!channel, refusal::WRONG_CHANNEL),
+        refusal::when(!owner, refusal::NOT_OWNER),
+        refusal::when(!legal, refusal::BAD_VALUE),
+        refusal::when(!waiting, refusal::NOT_WAITING),
+        refusal::when(room < needed, refusal::NO_ROOM),
+    ];
+    refusal::first_of(&numbers)
 }
 
 // Writes bytes over the start of a part, and gives their number.
 fn put(part: &mut [u8], bytes: &[u8]) -> usize
     requires { ⌜ length (now bytes) ≤ length (now part) ⌝ }
     ensures { λ r. ⌜ (r ≡ length (now (bytes .entry)))
-        × (now (part .exit) ≡ overlaid (now (part .entry)) (now (bytes .entry))) ⌝ }
+        × (now (part .exit) ≡ spliced (now (part .entry)) 0 (now (bytes .entry))) ⌝ }
 {
     bytes::copy(bytes, part)
 }
 
 // Writes the plan, 3 to 7 bytes, over the start of the part that it is lent, and gives its length.
 fn write_plan(part: &mut [u8], standby: bool, continuous: bool, address: u8, byte: u8) -> usize
-    requires { ⌜ (address < registerCount) × (length (planBytes standby continuous address byte) ≤ length (now part)) ⌝ }
-    ensures { λ r. ⌜ (r ≡ length (planBytes standby continuous address byte))
-        × (now (part .exit) ≡ overlaid (now (part .entry)) (planBytes standby continuous address byte)) ⌝ }
+    requires { ⌜ (address < registerCount) × (length (around standby continuous (writing address byte)) ≤ length (now part)) ⌝ }
+    ensures { λ r. ⌜ (r ≡ length (around standby continuous (writing address byte)))
+        × (now (part .exit) ≡ spliced (now (part .entry)) 0 (around standby continuous (writing address byte))) ⌝ }
 {
-    let command = commands::WREG + address;
+    let command = WREG + address;
     if standby {
         if continuous {
-            let plan = [
-                commands::WAKEUP,
-                commands::SDATAC,
-                command,
-                0,
-                byte,
-                commands::RDATAC,
-                commands::STANDBY,
-            ];
+            let plan = [WAKEUP, SDATAC, command, 0, byte, RDATAC, STANDBY];
             return put(part, &plan);
         }
-        let plan = [commands::WAKEUP, command, 0, byte, commands::STANDBY];
+        let plan = [WAKEUP, command, 0, byte, STANDBY];
         return put(part, &plan);
     }
     if continuous {
-        let plan = [commands::SDATAC, command, 0, byte, commands::RDATAC];
+        let plan = [SDATAC, command, 0, byte, RDATAC];
         return put(part, &plan);
     }
     let plan = [command, 0, byte];
@@ -143,7 +130,7 @@ fn change(c: Converter, request: Request) -> Converter
     ensures { λ r. ⌜ r ≡ withOutput (withRegisters c (withField (c .registers) (request .field) (request .channel) (request .value))) Output.Empty ⌝ }
 {
     let before = c.registers;
-    let registers = settings::write(before, request.field, request.channel, request.value);
+    let registers = ads1299_settings::write(before, request.field, request.channel, request.value);
     Converter {
         registers,
         output: Output::Empty,
@@ -160,8 +147,13 @@ pub fn plan(c: Converter, party: u32, request: Request, tx: &mut [u8], at: usize
     let number = refuse(c, party, request, count_room(tx, at));
     if number == refusal::NONE {
         let registers = c.registers;
-        let place = fields::locate(request.field, request.channel);
-        let byte = settings::new_byte(registers, request.field, request.channel, request.value);
+        let place = ads1299_fields::locate(request.field, request.channel);
+        let byte = ads1299_settings::new_byte(
+            registers,
+            request.field,
+            request.channel,
+            request.value,
+        );
         let length = write_plan(&mut tx[at..], c.standby, c.continuous, place.register, byte);
         let next = change(c, request);
         Planned {

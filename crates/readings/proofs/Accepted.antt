@@ -9,15 +9,15 @@ use lib.ListN.{length}
 use Rattle.cases.proofs.Cases.{and-both}
 use Rattle.refusal.specs.Numbers.{none}
 use Rattle.refusal.proofs.First.{exact}
-use Rattle.registers.specs.Addresses.{channelCount}
-use Rattle.frame.specs.Frame.{frameLength, frameMark}
-use Rattle.readout.specs.Reading.{leadingBits, isFrame}
+use Rattle.ads1299_registers.specs.Addresses.{channelCount}
+use Rattle.ads1299_frame.specs.Frame.{frameLength, frameMark}
+use Rattle.ads1299_readout.specs.Reading.{leadingBits, isFrame}
 use Rattle.ads1299.specs.declared.Converter.{Converter}
 use Rattle.parties.specs.Parties.{largestParty}
 use Rattle.ads1299.specs.Validity.{valid}
 use Rattle.parties.specs.Parties.{knownParty}
 use Rattle.parties.specs.Owners.{owns}
-use Rattle.parties.specs.Channels.{isChannel}
+use Rattle.ads1299_registers.specs.Channels.{isChannel}
 use Rattle.readings.specs.Reading.{readingRefusals, readingRefusal}
 
 pub frame-whole : (frame : List ℕ) → isFrame frame ≡ true → length frame ≡ frameLength

@@ -1,15 +1,15 @@
 -- The figures hold by computation.
 use mathlib.Core.Path.{refl}
 use Rattle.bits.specs.Fields.{field, bit}
-use Rattle.codes.specs.Codes.{codeOf}
-use Rattle.codes.specs.Words.{word, wordAt}
-use Rattle.readout.specs.Reading.{leadingBits, isFrame, channelBytes, codeAt, statusP, statusN, leadOffP, leadOffN}
-use Rattle.ads1299.specs.Registers.{powerUp}
+use Rattle.ads1299_codes.specs.Codes.{codeOf}
+use Rattle.ads1299_codes.specs.Words.{word, wordAt}
+use Rattle.ads1299_readout.specs.Reading.{leadingBits, isFrame, channelBytes, codeAt, statusP, statusN, leadOffP, leadOffN}
+use Rattle.ads1299_registers.specs.Table.{powerUp}
 use Rattle.ads1299.specs.PowerUp.{validId, restored, poweredUp}
 use Rattle.ads1299.specs.Validity.{validConverter, valid}
 use Rattle.parties.specs.Parties.{knownParty}
 use Rattle.parties.specs.Owners.{ownerOf, owns}
-use Rattle.parties.specs.Channels.{isChannel}
+use Rattle.ads1299_registers.specs.Channels.{isChannel}
 use Rattle.readings.specs.Reading.{readingRefusal, channelReading, partBytes}
 use Rattle.readings.specs.Figures.{FiguresHold}
 

@@ -8,11 +8,11 @@ use lib.ListN.{length, length-take, length-drop}
 use Rattle.cases.proofs.Cases.{split}
 use Rattle.refusal.specs.Numbers.{none}
 use Rattle.refusal.specs.First.{accepted}
-use Rattle.readout.specs.Reading.{channelBytes}
+use Rattle.ads1299_readout.specs.Reading.{channelBytes}
 use Rattle.ads1299.specs.declared.Converter.{Converter}
 use Rattle.readings.specs.Reading.{readingRefusal, channelReading, partBytes}
 use Rattle.readings.specs.Claims.{ThreeOrNone}
-use Rattle.parties.proofs.Bounds.{bounds}
+use Rattle.ads1299_registers.proofs.Bounds.{bounds}
 use Rattle.readings.proofs.Accepted.{frame-whole, readable}
 
 pub reading-number : (s : Converter) (party channel : ℕ) (frame : List ℕ) → channelReading s party channel frame .refusal ≡ readingRefusal s party channel frame

@@ -13,12 +13,12 @@ use Rattle.cases.proofs.Cases.{either, and-both}
 use Rattle.refusal.specs.Numbers.{none}
 use Rattle.refusal.specs.First.{accepted}
 use Rattle.refusal.proofs.First.{exact}
-use Rattle.registers.specs.Addresses.{channelCount, CH1SET, GPIO, LOFF_STATP, LOFF_STATN}
-use Rattle.codes.specs.Codes.{allInRange}
-use Rattle.frame.specs.Frame.{poweredDown, shown, frameOf}
-use Rattle.readout.specs.Reading.{isFrame}
-use Rattle.readout.specs.RoundTrip.{ReadsBack}
-use Rattle.readout.proofs.RoundTrip.{frames-read-back}
+use Rattle.ads1299_registers.specs.Addresses.{channelCount, CH1SET, GPIO, LOFF_STATP, LOFF_STATN}
+use Rattle.ads1299_codes.specs.Codes.{allInRange}
+use Rattle.ads1299_frame.specs.Frame.{poweredDown, shown, frameOf}
+use Rattle.ads1299_readout.specs.Reading.{isFrame}
+use Rattle.ads1299_readout.specs.RoundTrip.{ReadsBack}
+use Rattle.ads1299_readout.proofs.RoundTrip.{frames-read-back}
 use Rattle.ads1299.specs.declared.Converter.{Converter}
 use Rattle.ads1299.specs.declared.Moved.{Moved}
 use Rattle.parties.specs.Parties.{largestParty}
@@ -30,10 +30,10 @@ use Rattle.ads1299.proofs.ValidState.{parts, whole}
 use Rattle.ads1299.proofs.StaysValid.{taken-valid}
 use Rattle.parties.specs.Parties.{knownParty}
 use Rattle.parties.specs.Owners.{ownerOf, owns}
-use Rattle.parties.specs.Channels.{isChannel}
+use Rattle.ads1299_registers.specs.Channels.{isChannel}
 use Rattle.readings.specs.Reading.{readingRefusal, channelReading, partBytes}
 use Rattle.readings.specs.Claims.{ReadsSample, SamplesReadBack}
-use Rattle.parties.proofs.Bounds.{bounds}
+use Rattle.ads1299_registers.proofs.Bounds.{bounds}
 use Rattle.parties.proofs.Owners.{known-at}
 
 -- P and N go to their two registers and to no other

@@ -8,15 +8,15 @@ use lib.ListN.{length, getD}
 use Rattle.refusal.specs.Numbers.{none}
 use Rattle.refusal.specs.First.{accepted}
 use Rattle.bits.specs.Fields.{bit}
-use Rattle.codes.specs.Codes.{wordOf}
-use Rattle.codes.specs.Words.{wordBytes}
-use Rattle.frame.specs.Frame.{shown}
-use Rattle.readout.specs.Reading.{leadingBits, channelBytes, leadOffP, leadOffN}
+use Rattle.ads1299_codes.specs.Codes.{wordOf}
+use Rattle.ads1299_codes.specs.Words.{wordBytes}
+use Rattle.ads1299_frame.specs.Frame.{shown}
+use Rattle.ads1299_readout.specs.Reading.{leadingBits, channelBytes, leadOffP, leadOffN}
 use Rattle.ads1299.specs.declared.Converter.{Converter}
 use Rattle.ads1299.specs.Validity.{valid}
 use Rattle.ads1299.specs.Sample.{sampled}
 use Rattle.parties.specs.Owners.{ownerOf}
-use Rattle.parties.specs.Channels.{isChannel}
+use Rattle.ads1299_registers.specs.Channels.{isChannel}
 use Rattle.readings.specs.Reading.{reading, channelReading, partBytes, partPlace}
 
 -- two states pass 13 with the same owners, and two lists of bytes agree in length, in the first four bits, in a channel's bytes and in its two lead-off bits
@@ -30,11 +30,18 @@ pub record Alike (s t : Converter) (channel : ℕ) (first second : List ℕ) : T
   pub p-bits : leadOffP first channel ≡ leadOffP second channel
   pub n-bits : leadOffN first channel ≡ leadOffN second channel
 
--- Whatever else the states and the bytes hold, a party's readings of a channel are equal, and so are the parts: nothing of another channel shows, refused or not.
-pub record EqualReadings (s t : Converter) (party channel : ℕ) (first second : List ℕ) : Type 0 where
-  pub readings : Alike s t channel first second → channelReading s party channel first ≡ channelReading t party channel second
-  pub parts : Alike s t channel first second → partBytes s party channel first ≡ partBytes t party channel second
-  pub places : Alike s t channel first second → partPlace s party channel first ≡ partPlace t party channel second
+-- a party's readings of a channel are equal, and so are the parts
+pub record SameReading (s t : Converter) (party channel : ℕ) (first second : List ℕ) : Type 0 where
+  pub readings : channelReading s party channel first ≡ channelReading t party channel second
+  pub parts : partBytes s party channel first ≡ partBytes t party channel second
+  pub places : partPlace s party channel first ≡ partPlace t party channel second
+
+-- Whatever else the states and the bytes hold, they give a party the same reading: nothing of another channel shows, refused or not.
+abbrev pub EqualReadings : Type 0
+EqualReadings =
+    (s t : Converter) (party channel : ℕ) (first second : List ℕ)
+    → Alike s t channel first second
+    → SameReading s t party channel first second
 
 -- The second call gives three bytes exactly when the first one accepts, else none.
 abbrev pub ThreeOrNone : Type 0

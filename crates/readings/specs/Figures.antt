@@ -1,10 +1,10 @@
 -- Worked cases of readings, in one table.
 use Prim.Native.Nat.{ℕ}
-use mathlib.Core.Path.{_≡_}
 use mathlib.Core.Bool.{true, false}
-use mathlib.Core.List.{List, [], _∷_, _++_, map}
+use mathlib.Core.List.{List, [], _∷_, _++_}
 use lib.IntN.{pos, negℤ}
 use lib.ListN.{replicate}
+use Rattle.cases.specs.Figures.{Hold}
 use Rattle.ads1299.specs.declared.Converter.{Converter}
 use Rattle.ads1299.specs.Figures.{shared, invalid}
 use Rattle.readings.specs.declared.Reading.{Reading}
@@ -38,6 +38,6 @@ figures =
     ∷ read invalid 9 1 full (reading 13 (pos 0) false false) []
     ∷ []
 
--- every figure of the table is what the definitions give
+-- Every figure of the table is what the definitions give.
 abbrev pub FiguresHold : Type 0
-FiguresHold = map workedOut figures ≡ figures
+FiguresHold = Hold workedOut figures

@@ -5,13 +5,13 @@ use mathlib.Core.List.{List, [], _∷_}
 use lib.IntN.{ℤ, pos}
 use Rattle.refusal.specs.Numbers.{none, unknownParty, wrongChannel, notOwner, badFrame, invalidState}
 use Rattle.refusal.specs.First.{firstOf, accepted}
-use Rattle.readout.specs.Reading.{isFrame, channelBytes, codeAt, leadOffP, leadOffN}
+use Rattle.ads1299_readout.specs.Reading.{isFrame, channelBytes, codeAt, leadOffP, leadOffN}
 use Rattle.ads1299.specs.declared.Converter.{Converter}
 use Rattle.ads1299.specs.Validity.{valid}
 use Rattle.readings.specs.declared.Reading.{Reading}
 use Rattle.parties.specs.Parties.{knownParty}
 use Rattle.parties.specs.Owners.{owns}
-use Rattle.parties.specs.Channels.{isChannel}
+use Rattle.ads1299_registers.specs.Channels.{isChannel}
 
 -- the refusals of a reading, in the order in which they are tried
 abbrev pub readingRefusals : Converter → ℕ → ℕ → List ℕ → List (Bool × ℕ)

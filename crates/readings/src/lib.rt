@@ -2,7 +2,7 @@
 ghost use mathlib.Core.Path.{_≡_};
 ghost use Prim.Native.Nat.{_+_};
 ghost use Rattle.parties.specs.Owners.{ownerOf, owns};
-ghost use Rattle.parties.specs.Channels.{isChannel};
+ghost use Rattle.ads1299_registers.specs.Channels.{isChannel};
 ghost use Rattle.readings.specs.Reading.{readingRefusal, channelReading, partBytes, partPlace};
 use ads1299::Converter;
 
@@ -18,23 +18,20 @@ pub struct Reading {
 fn refuse_reading(converter: Converter, party: u32, channel: u32, frame: &[u8]) -> u8
     ensures { λ r. ⌜ r ≡ readingRefusal converter party channel (now (frame .entry)) ⌝ }
 {
-    if !converter.is_valid() {
-        return refusal::INVALID_STATE;
-    }
-    if !parties::is_known(party) {
-        return refusal::UNKNOWN_PARTY;
-    }
-    if !parties::is_channel(channel) {
-        return refusal::WRONG_CHANNEL;
-    }
     let owners = converter.owners;
-    if !parties::is_owner(owners, party, channel) {
-        return refusal::NOT_OWNER;
-    }
-    if !readout::is_frame(frame) {
-        return refusal::BAD_FRAME;
-    }
-    refusal::NONE
+    let valid = converter.is_valid();
+    let known = parties::is_known(party);
+    let there = ads1299_registers::is_channel(channel);
+    let owner = parties::is_owner(&owners, party, channel);
+    let framed = ads1299_readout::is_frame(frame);
+    let numbers = [
+        refusal::when(!valid, refusal::INVALID_STATE),
+        refusal::when(!known, refusal::UNKNOWN_PARTY),
+        refusal::when(!there, refusal::WRONG_CHANNEL),
+        refusal::when(!owner, refusal::NOT_OWNER),
+        refusal::when(!framed, refusal::BAD_FRAME),
+    ];
+    refusal::first_of(&numbers)
 }
 
 // Reads a channel from a frame, for its owner alone: the administrator too reads only its own.
@@ -45,9 +42,9 @@ pub fn read_channel(converter: Converter, party: u32, channel: u32, frame: &[u8]
     if number == refusal::NONE {
         Reading {
             refusal: refusal::NONE,
-            code: readout::channel_code(frame, channel),
-            p: readout::lead_off_p(frame, channel),
-            n: readout::lead_off_n(frame, channel),
+            code: ads1299_readout::channel_code(frame, channel),
+            p: ads1299_readout::lead_off_p(frame, channel),
+            n: ads1299_readout::lead_off_n(frame, channel),
         }
     } else {
         Reading {

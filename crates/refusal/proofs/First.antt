@@ -1,14 +1,14 @@
--- A list of tests answers 0 exactly when none of them applies, and how an answer is reached test by test. Assumes nothing.
-use mathlib.Core.Bool.{Bool, true, false, cond, not}
-use mathlib.Core.List.{List, [], _∷_}
-use mathlib.Core.Path.{_≡_, refl, sym, _∙_, ap}
+-- A list of tests answers 0 exactly when none of them applies, and the first number that they give by themselves.
+use mathlib.Core.Bool.{Bool, true, not}
+use mathlib.Core.List.{List, [], _∷_, map}
+use mathlib.Core.Path.{_≡_, refl, _∙_, ap}
 use Prim.Native.Nat.{ℕ}
 use native.Mathlib.Omega.{arith}
-use borrow.Author.Tests.{ltb-true}
+use borrow.Author.Tests.{ltb-true, ne-eqb}
 use lib.Dec.{ltb}
 use Rattle.cases.proofs.Cases.{split, and-both}
 use Rattle.refusal.specs.Numbers.{none}
-use Rattle.refusal.specs.First.{firstOf, NoneApplies, numbered, Exact}
+use Rattle.refusal.specs.First.{firstOf, given, firstGiven, NoneApplies, numbered, NumberedExact, FirstGivenAnswers}
 
 applies-not : (tests : List (Bool × ℕ)) → numbered tests ≡ true → firstOf tests ≡ none → NoneApplies tests
 applies-not [] n e = tt
@@ -21,17 +21,22 @@ first-none : (tests : List (Bool × ℕ)) → NoneApplies tests → firstOf test
 first-none [] a = refl
 first-none (t ∷ tests) a = rw (a .0) (first-none tests (a .1))
 
-pub exact : (tests : List (Bool × ℕ)) → numbered tests ≡ true → Exact tests
+pub exact : NumberedExact
 exact tests n = record { accepts = first-none tests; refuses = applies-not tests n }
 
--- How the answer of a list is reached test by test, as `firstOf` computes: the first one applies, and its number is the answer;
-pub applies : {test : Bool} {number : ℕ} (rest : ℕ) → test ≡ true → number ≡ cond test number rest
-applies rest e = rw e
+pub first-given : FirstGivenAnswers
+first-given [] n = refl
+first-given (t ∷ tests) n =
+    let b = and-both (ltb none (t .1)) (numbered tests) n in
+    split (t .0)
+    (λ q. rw (q, ne-eqb (t .1) none (λ z. omega (arith, ltb-true none (t .1) (b .0)))))
+    (λ q. rw q (first-given tests (b .1)))
 
--- or it does not, and the answer is that of the others.
-pub passes : {test : Bool} (number : ℕ) {answer rest : ℕ} → test ≡ false → answer ≡ rest → answer ≡ cond test number rest
-passes number e r = rw e r
+-- The code gives each test's number by itself and then the first of them. That number is the answer of the list of tests:
+pub walked : (tests : List (Bool × ℕ)) → numbered tests ≡ true → {answer : ℕ} {numbers : List ℕ} → answer ≡ firstGiven numbers
+    → numbers ≡ map (λ (t : Bool × ℕ). given (t .0) (t .1)) tests → answer ≡ firstOf tests
+walked tests n first same = first ∙ ap firstGiven same ∙ first-given tests n
 
 -- what the code asks of its own result holds of what that result is
-pub turned : {result meant told : Bool} → result ≡ meant → not result ≡ told → not meant ≡ told
-turned e t = ap not (sym e) ∙ t
+pub says : {result meant : Bool} (number : ℕ) {told : ℕ} → told ≡ given (not result) number → result ≡ meant → told ≡ given (not meant) number
+says number t e = t ∙ ap (λ (b : Bool). given (not b) number) e

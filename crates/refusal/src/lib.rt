@@ -1,4 +1,7 @@
-// The refusal numbers of document 01, by name, for code. specs/Numbers.antt has the same names for definitions.
+// The refusal numbers of document 01, by name, for code, and the first that applies. specs/Numbers.antt has the same names for
+// definitions.
+ghost use mathlib.Core.Path.{_≡_};
+ghost use Rattle.refusal.specs.First.{given, firstGiven};
 
 // 0 is success.
 pub const NONE: u8 = 0;
@@ -38,3 +41,24 @@ pub const INVALID_STATE: u8 = 13;
 
 // More program input than is taken.
 pub const INPUT_TOO_LONG: u8 = 14;
+
+// The number where its test applies, 0 where it does not.
+pub fn when(applies: bool, number: u8) -> u8
+    ensures { λ r. ⌜ r ≡ given applies number ⌝ }
+{
+    if applies { number } else { NONE }
+}
+
+// The first number that is not 0, or 0. The order of a list of refusals is that of document 01.
+pub fn first_of(numbers: &[u8]) -> u8
+    ensures { λ r. ⌜ r ≡ firstGiven (now (numbers .entry)) ⌝ }
+{
+    let mut i: usize = 0;
+    while i < numbers.len() {
+        if numbers[i] != NONE {
+            return numbers[i];
+        }
+        i += 1;
+    }
+    NONE
+}

@@ -4,8 +4,8 @@ use Rattle.leb128.specs.Encoding.{encoded}
 use Rattle.leb128.specs.Decoding.{decoded}
 use Rattle.request.specs.Requests.{requestBytes}
 use Rattle.request.specs.Reading.{readRefusal, parsed}
-use Rattle.request.specs.Figures.{figures, FiguresHold}
+use Rattle.request.specs.Figures.{FiguresHold}
 
 pub figures-hold : FiguresHold
-unfolding figures parsed readRefusal decoded requestBytes encoded
+unfolding parsed readRefusal decoded requestBytes encoded
 figures-hold = refl

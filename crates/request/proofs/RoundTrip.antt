@@ -15,6 +15,7 @@ use Rattle.leb128.specs.Numbers.{groups, found}
 use Rattle.leb128.specs.Encoding.{encoded}
 use Rattle.leb128.specs.Decoding.{decoded}
 use Rattle.leb128.specs.RoundTrip as numbers
+use Rattle.splice.specs.Splice.{spliced}
 use Rattle.cases.proofs.Cases.{split, and-both}
 use Rattle.leb128.proofs.RoundTrip as laws
 use Rattle.request.specs.declared.Request.{Request}
@@ -119,7 +120,7 @@ writes-back bytes buffer ok e room =
     let a = fits (parsed bytes .request) buffer (b .0) (omega arith) in
     record {
       answer = sym (a .0) ∙ (λ i. record { refusal = none; used = n i });
-      same = sym (a .1) ∙ (λ i. b .1 i ++ drop (n i) buffer);
+      same = sym (a .1) ∙ ap (spliced buffer 0) (b .1);
     }
 
 pub round-trip : RoundTrip

@@ -1,13 +1,14 @@
 -- The writer's answer and the buffer, case by case. Assumes nothing.
 use mathlib.Core.Bool.{true, false}
-use mathlib.Core.List.{List, _++_}
+use mathlib.Core.List.{List}
 use mathlib.Core.Path.{_≡_}
 use Prim.Native.Nat.{ℕ, _≤_, _<_}
 use borrow.Author.Tests.{leb-true, lt-ltb, le-ltb}
 use lib.Dec.{leb}
-use lib.ListN.{length, drop}
+use lib.ListN.{length}
 use Rattle.refusal.specs.Numbers.{none, badValue, noRoom}
 use Rattle.leb128.specs.Numbers.{groups, largest}
+use Rattle.splice.specs.Splice.{spliced}
 use Rattle.cases.proofs.Cases.{and-both}
 use Rattle.request.specs.declared.Request.{Request}
 use Rattle.request.specs.declared.Written.{Written}
@@ -39,6 +40,6 @@ module _ (r : Request) (buffer : List ℕ) where
   too-long w h = let t = lt-ltb (length buffer) (length (requestBytes r)) h in (rw (w, t), rw (w, t))
 
   pub fits : writable r ≡ true → length (requestBytes r) ≤ length buffer
-      → Answers (record { refusal = none; used = length (requestBytes r) }) (requestBytes r ++ drop (length (requestBytes r)) buffer)
+      → Answers (record { refusal = none; used = length (requestBytes r) }) (spliced buffer 0 (requestBytes r))
   unfolding written bufferAfter writeRefusal
   fits w h = let t = le-ltb (length buffer) (length (requestBytes r)) h in (rw (w, t), rw (w, t))

@@ -1,9 +1,9 @@
 -- Worked figures: bytes, and what is read from them and written as them.
 use mathlib.Core.Bool.{cond}
-use mathlib.Core.List.{List, [], _∷_, map}
-use mathlib.Core.Path.{_≡_}
+use mathlib.Core.List.{List, [], _∷_, _++_}
 use Prim.Native.Nat.{ℕ}
-use lib.ListN.{take}
+use lib.ListN.{drop}
+use Rattle.cases.specs.Figures.{Hold}
 use Rattle.refusal.specs.First.{accepted}
 use Rattle.refusal.specs.Numbers.{none, truncated, malformed}
 use Rattle.request.specs.declared.Parsed.{Parsed}
@@ -23,8 +23,8 @@ row bytes answer = record { bytes = bytes; answer = answer }
 abbrev found : ℕ → ℕ → ℕ → ℕ → Parsed
 found field channel value used = record { refusal = none; request = request field channel value; used = used }
 
--- requests of each length, one that no converter has, then each kind of fault
-unfoldable pub figures : List Row
+-- gives the table: requests of each length, one that no converter has, then each kind of fault
+abbrev pub figures : List Row
 figures =
     row (2 ∷ 3 ∷ 4 ∷ []) (found 2 3 4 3)
     ∷ row (2 ∷ 3 ∷ 4 ∷ 0x83 ∷ 0x00 ∷ []) (found 2 3 4 3)
@@ -42,7 +42,10 @@ figures =
 abbrev bytesOf : Parsed → List ℕ
 bytesOf answer = cond (accepted (answer .refusal)) (requestBytes (answer .request)) []
 
--- Every row's bytes are read as its answer, and the answer's request is written as the bytes it took.
+-- gives a figure worked out anew: the answer from the bytes, and from the answer the bytes that it took, with the others after them
+abbrev pub workedOut : Row → Row
+workedOut r = row (bytesOf (r .answer) ++ drop (r .answer .used) (r .bytes)) (parsed (r .bytes))
+
+-- Every figure of the table is what the definitions give.
 abbrev pub FiguresHold : Type 0
-FiguresHold =
-    map (λ (r : Row). row (bytesOf (r .answer)) (parsed (r .bytes))) figures ≡ map (λ (r : Row). row (take (r .answer .used) (r .bytes)) (r .answer)) figures
+FiguresHold = Hold workedOut figures

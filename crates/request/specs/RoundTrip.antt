@@ -3,30 +3,31 @@ use mathlib.Core.Bool.{true}
 use mathlib.Core.List.{List, _++_}
 use mathlib.Core.Path.{_≡_}
 use Prim.Native.Nat.{ℕ, _≤_}
-use lib.ListN.{length, take, drop}
+use lib.ListN.{length, take}
 use lib.Pow.{areBytes}
 use Rattle.refusal.specs.Numbers.{none}
+use Rattle.splice.specs.Splice.{spliced}
 use Rattle.request.specs.declared.Request.{Request}
 use Rattle.request.specs.declared.Parsed.{Parsed}
 use Rattle.request.specs.Requests.{numbers, longest}
 use Rattle.request.specs.Reading.{parsed}
 use Rattle.request.specs.Writing.{written, bufferAfter}
 
--- The count of a request that was read is one to two bytes a number, within the bytes, and 0 on a refusal only.
+-- the count of a request that was read is one to two bytes a number, within the bytes, and 0 on a refusal only
 pub record Counted (bytes : List ℕ) (read : Parsed) : Type 0 where
   pub least : read .refusal ≡ none → numbers ≤ read .used
   pub most : read .used ≤ longest
   pub within : read .used ≤ length bytes
 
--- A request that was written is read back with its count, whatever follows it.
+-- a request that was written is read back with its count, whatever follows it
 abbrev pub ReadsBack : Request → List ℕ → List ℕ → Type 0
 ReadsBack r buffer rest =
     parsed (take (written r buffer .used) (bufferAfter r buffer) ++ rest) ≡ record { refusal = none; request = r; used = written r buffer .used }
 
--- A request that was read is written back, into any buffer long enough, as the very bytes that it was read from.
+-- a request that was read is written back, into any buffer long enough, as the very bytes that it was read from
 pub record WritesBack (bytes buffer : List ℕ) (read : Parsed) : Type 0 where
   pub answer : written (read .request) buffer ≡ record { refusal = none; used = read .used }
-  pub same : bufferAfter (read .request) buffer ≡ take (read .used) bytes ++ drop (read .used) buffer
+  pub same : bufferAfter (read .request) buffer ≡ spliced buffer 0 (take (read .used) bytes)
 
 -- Reading undoes writing and writing undoes reading.
 pub record RoundTrip : Type 0 where

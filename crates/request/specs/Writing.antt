@@ -1,12 +1,13 @@
 -- A request that is written into a buffer, from its start on.
 use mathlib.Core.Bool.{Bool, cond, not}
-use mathlib.Core.List.{List, [], _∷_, _++_}
+use mathlib.Core.List.{List, [], _∷_}
 use Prim.Native.Nat.{ℕ}
 use lib.Dec.{ltb}
-use lib.ListN.{length, take, drop}
+use lib.ListN.{length, take}
 use Rattle.refusal.specs.Numbers.{none, badValue, noRoom}
 use Rattle.refusal.specs.First.{firstOf, accepted}
 use Rattle.leb128.specs.Encoding.{padded}
+use Rattle.splice.specs.Splice.{spliced}
 use Rattle.request.specs.declared.Request.{Request}
 use Rattle.request.specs.declared.Written.{Written}
 use Rattle.request.specs.declared.Staged.{Staged}
@@ -27,10 +28,10 @@ written r buffer =
     (record { refusal = none; used = length (requestBytes r) })
     (record { refusal = writeRefusal r (length buffer); used = 0 })
 
--- gives the buffer afterwards: the request's bytes, then its own bytes as they were; on a refusal all as it was
+-- gives the buffer afterwards: the request's bytes over its start; on a refusal all as it was
 unfoldable pub bufferAfter : Request → List ℕ → List ℕ
 bufferAfter r buffer =
-    cond (accepted (writeRefusal r (length buffer))) (requestBytes r ++ drop (length (requestBytes r)) buffer) buffer
+    cond (accepted (writeRefusal r (length buffer))) (spliced buffer 0 (requestBytes r)) buffer
 
 -- gives bytes as they stand before they are copied: in an array for the longest request, 0 past them
 unfoldable pub staged : List ℕ → Staged

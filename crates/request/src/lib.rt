@@ -31,7 +31,7 @@ pub struct Written {
 }
 
 // How many numbers a request has.
-const NUMBERS: usize = 3;
+pub const NUMBERS: usize = 3;
 
 // The most bytes of a request.
 const LONGEST: usize = NUMBERS * leb128::GROUPS;

@@ -4,7 +4,8 @@ use mathlib.Core.Path.{sym, ap, _∙_}
 use mathlib.Core.List.{List}
 use Prim.Native.Nat.{ℕ}
 use lib.ListN.{length}
-use lib.Seq.{sets, length-take-le}
+use lib.Seq.{length-take-le}
+use Rattle.splice.specs.Splice.{spliced}
 use Rattle.console.proofs.Turns.{refused-line, refused-turn, plan-within, buffer-whole, answered-line, answered-turn}
 use Rattle.console.proofs.answer.Statement.{statement}
 use Rattle.console.proofs.answer.Tie as tie
@@ -27,7 +28,7 @@ answer-spec =
     let a = r .before .before .before .args in
     let ne = c .before .before .before .before .before .if1 .taken in (
       refused-turn (a .converter) (a .party) (a .bytes .now) (r .read .result) (r .read .ensures) ne (a .at) _ (l .ensures .0),
-      l .ensures .1 ∙ ap (λ (t : List ℕ). sets (a .out .now) (a .at) t) (sym (refused-line (a .converter) (a .party) (a .bytes .now) (r .read .result) (r .read .ensures) ne)),
+      l .ensures .1 ∙ ap (spliced (a .out .now) (a .at)) (sym (refused-line (a .converter) (a .party) (a .bytes .now) (r .read .result) (r .read .ensures) ne)),
     ))
     (λ c. search needs)
     (λ c κs. search needs)
@@ -60,5 +61,5 @@ answer-spec =
     let a = r .before .before .before .args in
     let z = c .before .before .before .before .before .before .before .before .before .if1 .left in (
       answered-turn (a .converter) (a .party) (a .bytes .now) (r .read .result) (r .read .ensures) z (p .result) _ (p .ensures .0 .0) (p .ensures .0 .1) (a .at) _ (l .ensures .0),
-      l .ensures .1 ∙ ap (λ (t : List ℕ). sets (a .out .now) (a .at) t) (sym (answered-line (a .converter) (a .party) (a .bytes .now) (r .read .result) (r .read .ensures) z (p .result) _ (p .ensures .0 .0) (p .ensures .0 .1))),
+      l .ensures .1 ∙ ap (spliced (a .out .now) (a .at)) (sym (answered-line (a .converter) (a .party) (a .bytes .now) (r .read .result) (r .read .ensures) z (p .result) _ (p .ensures .0 .0) (p .ensures .0 .1))),
     )))

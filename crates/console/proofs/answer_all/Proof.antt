@@ -5,7 +5,8 @@ use mathlib.Core.Path.{_≡_, refl, sym, ap, _∙_}
 use mathlib.Core.List.{List}
 use Prim.Native.Nat.{ℕ, _+_, _-_, _≤_, _<_}
 use lib.ListN.{length, drop}
-use lib.Seq.{sets, length-sets}
+use Rattle.splice.specs.Splice.{spliced}
+use Rattle.splice.proofs.Splice.{fitting-laid, nothing-spliced}
 use Rattle.ads1299.specs.declared.Converter.{Converter}
 use Rattle.console.specs.Turn.{fresh, printed, turn}
 use Rattle.console.specs.Transcript.{session}
@@ -16,7 +17,7 @@ use Rattle.console.proofs.answer_all.Tie as tie
 -- what is written, with the lines of what is left after it, is the whole
 abbrev Inv-loop : tie.InvT-loop
 Inv-loop party bytes out₀ converter₀ at₀ place₀ out converter at place =
-    (at ≤ length bytes) × ((length out ≡ length out₀) × ((length (session fresh party bytes) ≡ place + length (session converter party (drop at bytes))) × (sets out₀ 0 (session fresh party bytes) ≡ sets out place (session converter party (drop at bytes)))))
+    (at ≤ length bytes) × ((length out ≡ length out₀) × ((length (session fresh party bytes) ≡ place + length (session converter party (drop at bytes))) × (spliced out₀ 0 (session fresh party bytes) ≡ spliced out place (session converter party (drop at bytes)))))
 
 abbrev μ-loop : tie.MeasureT-loop
 μ-loop party bytes out₀ converter₀ at₀ place₀ out converter at place = length bytes - at
@@ -25,7 +26,7 @@ loop-holds : tie.Need-loop-holds Inv-loop μ-loop
 loop-holds c =
     let a = c .before .before .before .args in
     let e : session fresh (a .party) (a .bytes .now) ≡ session (c .start .result) (a .party) (a .bytes .now) = ap (λ (s : Converter). session s (a .party) (a .bytes .now)) (sym (c .start .ensures)) in
-    (omega arith, (refl, (omega (arith, ap length e), ap (λ (l : List ℕ). sets (a .out .now) 0 l) e)))
+    (omega arith, (refl, (omega (arith, ap length e), ap (spliced (a .out .now) 0) e)))
 
 -- the part that is lent is the rest
 rest : (c : tie.At-loop Inv-loop μ-loop) → List ℕ
@@ -38,12 +39,12 @@ turn-is c =
     let a = l .before .before .before .before .args in
     c .answer .ensures .0 ∙ ap (λ (r : List ℕ). turn (l .loop .converter) (a .party) r (l .loop .place)) (part-to-end (a .bytes .now) (l .loop .at))
 
-out-is : (c : tie.After-answer Inv-loop μ-loop) → let l = c .before .before .before .before in c .answer .last .1 .1 .1 .0 ≡ sets (l .loop .out) (l .loop .place) (printed (l .loop .converter) (l .before .before .before .before .args .party) (rest l))
+out-is : (c : tie.After-answer Inv-loop μ-loop) → let l = c .before .before .before .before in c .answer .last .1 .1 .1 .0 ≡ spliced (l .loop .out) (l .loop .place) (printed (l .loop .converter) (l .before .before .before .before .args .party) (rest l))
 unfolding rest
 out-is c =
     let l = c .before .before .before .before in
     let a = l .before .before .before .before .args in
-    c .answer .ensures .1 ∙ ap (λ (r : List ℕ). sets (l .loop .out) (l .loop .place) (printed (l .loop .converter) (a .party) r)) (part-to-end (a .bytes .now) (l .loop .at))
+    c .answer .ensures .1 ∙ ap (λ (r : List ℕ). spliced (l .loop .out) (l .loop .place) (printed (l .loop .converter) (a .party) r)) (part-to-end (a .bytes .now) (l .loop .at))
 
 answer-requires : tie.Need-answer-requires Inv-loop μ-loop
 answer-requires c κs =
@@ -66,13 +67,15 @@ loop-again c =
     let l = u .before .before .before .before in
     let a = l .before .before .before .before .args in
     let h = u .before .before .before .loop-test .taken in
+    let r = room (l .loop .converter) (a .party) (l .loop .at) (l .loop .place) (a .bytes .now) (l .loop .out) h in
+    let fits : l .loop .place + length (session (l .loop .converter) (a .party) (rest l)) ≤ length (l .loop .out) = omega arith in
     let n = text-length (l .loop .converter) (a .party) (l .loop .at) (l .loop .place) (a .bytes .now) (l .loop .out) h (u .answer .result) (turn-is u) in (
       on u .1,
       (
-        ap length (out-is u) ∙ length-sets (l .loop .out) (l .loop .place) (printed (l .loop .converter) (a .party) (rest l)) ∙ l .loop .inv .1 .0,
+        ap length (out-is u) ∙ fitting-laid (l .loop .out) (l .loop .place) (printed (l .loop .converter) (a .party) (rest l)) (omega arith) .size ∙ l .loop .inv .1 .0,
         (
           l .loop .inv .1 .1 .0 ∙ n,
-          l .loop .inv .1 .1 .1 ∙ text (l .loop .converter) (a .party) (l .loop .at) (l .loop .place) (a .bytes .now) (l .loop .out) h (u .answer .result) (turn-is u) _ (out-is u),
+          l .loop .inv .1 .1 .1 ∙ text (l .loop .converter) (a .party) (l .loop .at) (l .loop .place) (a .bytes .now) (l .loop .out) h (u .answer .result) (turn-is u) fits _ (out-is u),
         ),
       ),
     )
@@ -82,7 +85,7 @@ returns c =
     let l = c .before in
     let a = l .before .before .before .before .args in
     let e = no-more (l .loop .converter) (a .party) (l .loop .at) (a .bytes .now) (c .loop-test .left) in
-    (omega (arith, ap length e), sym (l .loop .inv .1 .1 .1 ∙ ap (λ (x : List ℕ). sets (l .loop .out) (l .loop .place) x) e))
+    (omega (arith, ap length e), sym (l .loop .inv .1 .1 .1 ∙ ap (spliced (l .loop .out) (l .loop .place)) e ∙ nothing-spliced (l .loop .out) (l .loop .place)))
 
 pub answer-all-spec : {M : Type 1} → statement M
 answer-all-spec =

@@ -4,8 +4,8 @@ use mathlib.Core.List.{List}
 use native.Mathlib.Omega.{arith}
 use Prim.Native.Nat.{ℕ}
 use lib.ListN.{length, length-set}
-use lib.Seq.{sets}
-use Rattle.console.proofs.Storing.{two}
+use Rattle.splice.specs.Splice.{spliced}
+use Rattle.console.proofs.Storing.{one, two}
 use Rattle.console.proofs.Texts.{one-digit, two-digits}
 use Rattle.console.proofs.put_decimal.Statement.{statement}
 use Rattle.console.proofs.put_decimal.Tie as tie
@@ -24,9 +24,9 @@ put-decimal-spec =
     (λ c. let e = two-digits (c .before .args .number) (c .if1 .left) in simp length-set (omega (arith, ap length e)))
     (λ c. search needs)
     (λ c. search needs)
-    (λ c. let e = one-digit (c .before .args .number) (c .if1 .taken) in rw e (refl, refl))
+    (λ c. let e = one-digit (c .before .args .number) (c .if1 .taken) in rw e (refl, one (c .before .args .out .now) (c .before .args .at) _ (omega (arith, ap length e))))
     (λ c. search needs)
     (λ c.
     let a = c .before .args in
     let e = two-digits (a .number) (c .if1 .left) in
-    (rw e, two (a .out .now) (a .at) _ _ ∙ ap (λ (l : List ℕ). sets (a .out .now) (a .at) l) (sym e))))
+    (rw e, two (a .out .now) (a .at) _ _ (omega (arith, ap length e)) ∙ ap (spliced (a .out .now) (a .at)) (sym e))))

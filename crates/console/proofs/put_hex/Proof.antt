@@ -3,7 +3,7 @@ use native.Mathlib.Omega.{arith}
 use mathlib.Core.Path.{_∙_}
 use mathlib.Core.List.{[], _∷_}
 use lib.ListN.{length-set}
-use lib.Seq.{sets}
+use Rattle.splice.specs.Splice.{spliced}
 use Rattle.console.specs.Text.{blank, hex}
 use Rattle.console.proofs.Storing.{three}
 use Rattle.console.proofs.put_hex.Statement.{statement}
@@ -24,4 +24,4 @@ put-hex-spec =
     (λ c. search needs)
     (λ c.
     let a = c .before .before .before .args in
-    three (a .out .now) (a .at) blank (c .before .hex-digit .result) (c .hex-digit2 .result) ∙ (λ i. sets (a .out .now) (a .at) (blank ∷ c .before .hex-digit .ensures i ∷ c .hex-digit2 .ensures i ∷ []))))
+    three (a .out .now) (a .at) blank (c .before .hex-digit .result) (c .hex-digit2 .result) (omega arith) ∙ (λ i. spliced (a .out .now) (a .at) (blank ∷ c .before .hex-digit .ensures i ∷ c .hex-digit2 .ensures i ∷ []))))

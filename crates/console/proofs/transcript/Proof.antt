@@ -25,14 +25,14 @@ transcript-spec =
     omega (arith, always-fits (a .input .now), ap length (too-long (a .input .now) (c .before .before .if1 .taken))))
     (λ c.
     let a = c .before .before .before .before .before .args in
-    written (a .input .now) (a .out .now) _ _ _ (search needs) (too-long (a .input .now) (c .before .before .before .if1 .taken)) (c .put-line .ensures .0) (c .put-line .ensures .1))
+    written (a .input .now) (a .out .now) _ _ _ (too-long (a .input .now) (c .before .before .before .if1 .taken)) (c .put-line .ensures .0) (c .put-line .ensures .1))
     (λ c κs.
     let a = c .before .before .before .before .args in
     let n : length (a .out .now) ≡ longestTranscript = search needs in
     omega (arith, always-fits (a .input .now), ap length (no-party (a .input .now) (c .before .if2 .taken))))
     (λ c.
     let a = c .before .before .before .before .before .args in
-    written (a .input .now) (a .out .now) _ _ _ (search needs) (no-party (a .input .now) (c .before .before .if2 .taken)) (c .put-line2 .ensures .0) (c .put-line2 .ensures .1))
+    written (a .input .now) (a .out .now) _ _ _ (no-party (a .input .now) (c .before .before .if2 .taken)) (c .put-line2 .ensures .0) (c .put-line2 .ensures .1))
     (λ c. search needs)
     (λ c. omega (arith, c .shared-slice-known2 .given 0))
     (λ c. search needs)
@@ -48,4 +48,4 @@ transcript-spec =
     let a = c .before .before .before .before .before .before .before .args in
     let e = requests (a .input .now) (c .before .before .before .before .before .if1 .left) (c .before .before .before .before .if2 .left) in
     let p = ap (λ (l : List ℕ). session fresh (getD (a .input .now) 0 0) l) (sym (part-to-end (a .input .now) 1)) in
-    written (a .input .now) (a .out .now) _ _ _ (search needs) (e ∙ p) (c .answer-all .ensures .0 ∙ omega arith) (c .answer-all .ensures .1)))
+    written (a .input .now) (a .out .now) _ _ _ (e ∙ p) (c .answer-all .ensures .0 ∙ omega arith) (c .answer-all .ensures .1)))

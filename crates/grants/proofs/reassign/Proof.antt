@@ -1,4 +1,5 @@
-use Rattle.parties.proofs.Bounds.{bounds, party-bound}
+use Rattle.ads1299_registers.proofs.Bounds.{bounds}
+use Rattle.parties.proofs.Bounds.{party-bound}
 use Rattle.grants.proofs.reassign.Statement.{statement}
 use Rattle.grants.proofs.reassign.Tie as tie
 use Rattle.grants.specs.Grant.{reassigned}

@@ -2,9 +2,12 @@ use Rattle.parties.proofs.owner.Statement.{statement}
 use Rattle.parties.proofs.owner.Tie as tie
 use Rattle.parties.specs.Owners.{ownerOf}
 use borrow.Author.Needs.{needs}
-use lib.ListN.{length, List·getD-eq-default}
+use denote.Ref.{now}
+use lib.ListN.{List·getD-eq-default}
 use mathlib.Core.Path.{_≡_, refl, sym}
+use mathlib.Core.Logic.{⊎-elim}
 use native.Mathlib.Omega.{arith}
+use Prim.Native.Nat.{_-_}
 
 pub owner-spec : {M : Type 1} → statement M
 unfolding ownerOf
@@ -12,11 +15,12 @@ owner-spec =
     tie.close
     (tie.spec
     (λ c. search needs)
-    (λ c. rw (c .if1 .taken))
     (λ c. search needs)
-    (λ c. search needs)
-    (λ c. refl)
     (λ c.
-    let xs = c .before .before .args .t1 in
-    let n : length xs ≡ 8 = search needs in
-    sym (List·getD-eq-default xs 0 (omega arith))))
+    let a = c .before .before .before .args in
+    let e : c .before .before .if1 .at ≡ a .channel - 1 = ⊎-elim (λ w. omega arith) (λ w. omega arith) (c .before .before .if1 .came) in
+    rw (← e))
+    (λ c.
+    let a = c .before .before .args in
+    let e : c .before .if1 .at ≡ a .channel - 1 = ⊎-elim (λ w. omega arith) (λ w. omega arith) (c .before .if1 .came) in
+    sym (List·getD-eq-default (now (a .owners)) 0 (omega arith))))

@@ -10,7 +10,8 @@ is-field-owner-spec =
     tie.close
     (tie.spec
     (λ c κs. search needs)
+    (λ c. search needs)
     (λ c κs. search needs)
     (λ c κs. search needs)
-    (λ c. simp (← c .before .before .is-channel-field .ensures, c .before .if1 .taken, c .is-owner .ensures))
+    (λ c. simp (← c .before .before .before .is-channel-field .ensures, c .before .before .if1 .taken, c .is-owner .ensures))
     (λ c. simp (← c .before .before .is-channel-field .ensures, c .before .if1 .left, c .is-admin .ensures)))

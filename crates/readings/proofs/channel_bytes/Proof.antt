@@ -1,10 +1,10 @@
 use Prim.Native.Nat.{_+_, _-_, _*_}
-use Rattle.parties.proofs.Bounds.{bounds}
+use Rattle.ads1299_registers.proofs.Bounds.{bounds}
 use Rattle.readings.proofs.Accepted.{frame-whole, readable}
 use Rattle.readings.proofs.channel_bytes.Statement.{statement}
 use Rattle.readings.proofs.channel_bytes.Tie as tie
 use Rattle.readings.specs.Reading.{partBytes, partPlace}
-use Rattle.readout.specs.Reading.{channelBytes}
+use Rattle.ads1299_readout.specs.Reading.{channelBytes}
 use borrow.Author.Needs.{needs}
 use borrow.Author.Tests.{eq-eqb, ne-eqb}
 use mathlib.Core.Path.{_≡_, sym, _∙_}

@@ -1,11 +1,11 @@
 use borrow.Author.Needs.{needs}
 use mathlib.Core.Bool.{true}
-use mathlib.Core.List.{List, _++_}
-use mathlib.Core.Path.{_≡_, sym, _∙_}
+use mathlib.Core.Path.{_≡_, sym, ap, _∙_}
 use native.Mathlib.Omega.{arith}
-use Prim.Native.Nat.{ℕ}
-use lib.ListN.{length, take, drop}
-use lib.Seq.{length-take-le, take-length}
+use lib.ListN.{take}
+use lib.Seq.{length-take-le}
+use Rattle.splice.specs.Splice.{spliced}
+use Rattle.splice.proofs.Splice.{copied}
 use Rattle.refusal.specs.Numbers.{none}
 use Rattle.request.specs.Requests.{requestBytes, writable}
 use Rattle.request.specs.Writing.{contents}
@@ -13,9 +13,6 @@ use Rattle.request.proofs.Padding.{contents-is, used-is, used-within}
 use Rattle.request.proofs.Writing.{too-large, too-long, fits}
 use Rattle.request.proofs.write.Statement.{statement}
 use Rattle.request.proofs.write.Tie as tie
-
-copied : (source p buffer after : List ℕ) → source ≡ p → after ≡ take (length source) source ++ drop (length source) buffer → after ≡ p ++ drop (length p) buffer
-copied source p buffer after e h = rw (e, take-length) at h
 
 is-writable-requires : tie.Need-is-writable-requires
 is-writable-requires c κs = search needs
@@ -56,7 +53,7 @@ returns-2 c =
     let u = used-is _ _ (e .stage .ensures) in
     let p : take (e .stage .result .used) (e .stage .result .bytes) ≡ requestBytes (a .request) = contents-is _ _ (e .stage .ensures) in
     let f = fits (a .request) (a .buffer .now) (can (e .before)) (omega (arith, u, i .if2 .left)) in
-    ((λ k. record { refusal = none; used = u k }) ∙ f .0, copied _ _ _ _ p (c .before .before .copy .ensures .1) ∙ f .1)
+    ((λ k. record { refusal = none; used = u k }) ∙ f .0, copied (take (e .stage .result .used) (e .stage .result .bytes)) (a .buffer .now) _ (c .before .before .copy .ensures .1) ∙ ap (spliced (a .buffer .now) 0) p ∙ f .1)
 
 returns-3 : tie.Need-returns-3
 returns-3 c = let a = c .before .before .before .args in too-large (a .request) (a .buffer .now) (sym (c .before .is-writable .ensures) ∙ c .if1 .left)

@@ -1,4 +1,3 @@
-use Rattle.ads1299.proofs.ValidState.{counting-bounds}
 use Rattle.ads1299.proofs.Converter.follow.Statement.{statement}
 use Rattle.ads1299.proofs.Converter.follow.Tie as tie
 use Rattle.ads1299.specs.Step.{followed}
@@ -16,7 +15,7 @@ follow-spec =
     (λ c κs. search needs)
     (λ c κs. search needs)
     (λ c. search needs)
-    (λ c κs. counting-bounds (c .before .before .before .args .self) _ (c .before .before .before .pre) (c .before .phase2 .given .1))
+    (λ c κs. search needs)
     (λ c. simp (c .before .before .enum-told .given .1, ← c .before .decode .ensures, ← c .command .ensures))
     (λ c. simp (c .before .before .before .phase .given .1, ← c .before .begin .ensures, c .with-phase .ensures))
     (λ c. simp (c .before .before .phase2 .given .1, ← c .count .ensures)))

@@ -1,7 +1,7 @@
 use Rattle.ads1299.proofs.Converter.restore.Statement.{statement}
 use Rattle.ads1299.proofs.Converter.restore.Tie as tie
 use Rattle.ads1299.specs.PowerUp.{restored}
-use Rattle.ads1299.specs.Registers.{powerUp}
+use Rattle.ads1299_registers.specs.Table.{powerUp}
 use borrow.Author.Needs.{needs}
 use mathlib.Core.Path.{refl}
 

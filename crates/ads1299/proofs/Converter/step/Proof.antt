@@ -1,4 +1,3 @@
-use mathlib.Core.Path.{sym, _∙_}
 use Rattle.ads1299.proofs.Converter.step.Statement.{statement}
 use Rattle.ads1299.proofs.Converter.step.Tie as tie
 use Rattle.ads1299.specs.Step.{stepped}
@@ -11,6 +10,6 @@ step-spec =
     (tie.spec
     (λ c κs. search needs)
     (λ c κs. search needs)
-    (λ c κs. sym (c .before .before .is-valid .ensures) ∙ c .before .if1 .taken)
+    (λ c κs. search needs)
     (λ c. simp (← c .before .before .before .is-valid .ensures, c .before .before .if1 .taken, ← c .before .outgoing-byte .ensures, ← c .follow .ensures))
     (λ c. simp (← c .before .is-valid .ensures, c .if1 .left)))

@@ -3,7 +3,7 @@ use mathlib.Core.Bool.{true, false}
 use mathlib.Core.List.{List}
 use mathlib.Core.Path.{_≡_, _∙_}
 use lib.IntN.{ℤ}
-use Rattle.frame.specs.Frame.{frameOf}
+use Rattle.ads1299_frame.specs.Frame.{frameOf}
 use Rattle.ads1299.specs.declared.Converter.{Converter}
 use Rattle.ads1299.specs.State.{withRegisters, withLatest}
 use Rattle.ads1299.specs.Output.{loaded}

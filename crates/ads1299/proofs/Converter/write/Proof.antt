@@ -1,6 +1,6 @@
 use Rattle.ads1299.proofs.Converter.write.Statement.{statement}
 use Rattle.ads1299.proofs.Converter.write.Tie as tie
-use Rattle.ads1299.specs.Registers.{masks}
+use Rattle.ads1299_registers.specs.Table.{masks}
 use Rattle.ads1299.specs.Registers.{written}
 use borrow.Author.Needs.{needs}
 use borrow.Author.Tests.{le-ltb, lt-ltb}

@@ -1,0 +1,4 @@
+pub mod Addresses
+pub mod Table
+pub mod Channels
+pub mod Figures

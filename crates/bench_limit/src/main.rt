@@ -1,4 +1,0 @@
-// The program on 4,096 bytes, which are taken.
-fn main() {
-    terminal::run();
-}

@@ -1,0 +1,1 @@
+// Theorems only: what a refusal is, of every entry point (demand 1).

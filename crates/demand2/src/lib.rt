@@ -1,0 +1,1 @@
+// Theorems only: what is claimed of one request (demand 2).

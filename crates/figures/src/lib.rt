@@ -1,0 +1,1 @@
+// Theorems only: the figures that document 01 marks M.

@@ -1,6 +1,0 @@
-pub mod Names
-pub mod Table
-pub mod Places
-pub mod Layout
-pub mod Masks
-pub mod Figures

@@ -1,0 +1,1 @@
+// Theorems only: bytes laid over a buffer from a place on.
