@@ -1,4 +1,4 @@
--- The runs of bytes come out as worked by hand, by computation. Assumes nothing.
+-- The figures hold, by computation.
 use mathlib.Core.Path.{refl}
 use Rattle.bits.specs.Fields.{field, bit, masked}
 use Rattle.ads1299_commands.specs.Commands.{registerCommand, decoded, acts}

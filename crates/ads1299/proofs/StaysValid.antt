@@ -1,4 +1,4 @@
--- A state that an accepted power-up gives passes 13, and a state that passes it goes on to pass it. Assumes nothing.
+-- A state that an accepted power-up gives passes 13, and a state that passes it goes on to pass it.
 use Prim.Native.Nat.{ℕ, zero, suc, _+_, _%_}
 use mathlib.Core.Path.{_≡_, refl}
 use mathlib.Core.Bool.{Bool, true, false, cond, not, false≢true}

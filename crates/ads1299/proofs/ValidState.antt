@@ -1,4 +1,4 @@
--- What a state that passes 13 has, taken apart and put together. Assumes nothing.
+-- What a state that passes 13 has, taken apart and put together.
 use mathlib.Core.Path.{_≡_}
 use mathlib.Core.Bool.{true, _&&_}
 use lib.ListN.{getD}

@@ -1,4 +1,4 @@
--- Zero bytes lead back to waiting, and a select rise of an idle converter changes nothing. Assumes nothing.
+-- Zero bytes lead back to waiting, since a count of those left to go falls with each; and a select rise of an idle converter changes nothing.
 use Prim.Native.Nat.{ℕ, zero, suc, _+_, _≤_}
 use mathlib.Core.Path.{_≡_, refl, sym, _∙_, ap}
 use mathlib.Core.Bool.{Bool, true, _&&_}

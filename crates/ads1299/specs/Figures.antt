@@ -55,7 +55,7 @@ figures =
 abbrev pub FiguresHold : Type 0
 FiguresHold = Hold workedOut figures
 
--- For the figures of grants and readings: gives a fresh state in which channels 2 and 3 are party 2's, channel 8 is party 8's, and the others the administrator's
+-- gives, for the figures of grants and readings, a fresh state in which channels 2 and 3 are party 2's, channel 8 is party 8's, and the others the administrator's
 abbrev pub shared : Converter
 shared = withOwners (poweredUp 0x3E .converter) (0 ∷ 2 ∷ 2 ∷ 0 ∷ 0 ∷ 0 ∷ 0 ∷ 8 ∷ [])
 

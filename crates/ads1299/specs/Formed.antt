@@ -7,12 +7,12 @@ use Rattle.ads1299_registers.specs.Addresses.{registerCount, channelCount}
 use Rattle.ads1299_frame.specs.Frame.{frameLength}
 use Rattle.ads1299.specs.declared.Converter.{Converter}
 
--- A list is an array of n bytes.
+-- a list is an array of n bytes
 pub record Array (n : ℕ) (l : List ℕ) : Type 0 where
   pub size : length l ≡ n
   pub bytes : (i : ℕ) → getD l i 0 < 256
 
--- Every array of the state has its length, and its elements are bytes.
+-- every array of the state has its length, and its elements are bytes
 pub record Formed (s : Converter) : Type 0 where
   pub registers : Array registerCount (s .registers)
   pub owners : Array channelCount (s .owners)

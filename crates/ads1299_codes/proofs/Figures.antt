@@ -1,4 +1,4 @@
--- The figures hold by computation.
+-- The figures hold, by computation.
 use mathlib.Core.Path.{refl}
 use Rattle.ads1299_codes.specs.Codes.{wordOf, codeOf}
 use Rattle.ads1299_codes.specs.Words.{word, wordBytes, wordAt}

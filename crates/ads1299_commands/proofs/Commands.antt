@@ -1,4 +1,4 @@
--- What a decoded byte can be. Assumes nothing.
+-- What a decoded byte can be.
 use Prim.Native.Nat.{ℕ, _-_, _%_}
 use mathlib.Core.Path.{_≡_, refl}
 use mathlib.Core.Bool.{Bool, true, cond}

@@ -1,4 +1,4 @@
--- The fields' layout, by one computed test over every two names. Assumes nothing.
+-- The fields' layout, by one computed test over every two names.
 use mathlib.Core.Path.{_≡_, refl, sym, _∙_}
 use mathlib.Core.Logic.{_⊎_, inl, inr}
 use mathlib.Core.Bool.{Bool, true, false, _&&_, _||_, false≢true}

@@ -1,4 +1,4 @@
--- The figures hold, by computation. Assumes nothing.
+-- The figures hold, by computation.
 use mathlib.Core.Path.{refl}
 use Rattle.ads1299_fields.specs.Table.{table, rowOf}
 use Rattle.ads1299_fields.specs.Names.{named, sumBelow, nameCount}

@@ -1,4 +1,4 @@
--- The fields lie inside the masks and fill them: each by one test that is computed over the whole table. Assumes nothing.
+-- The fields lie inside the masks and fill them: each by one test that is computed over the whole table.
 use mathlib.Core.Path.{_≡_, refl}
 use mathlib.Core.Bool.{Bool, true, not, _||_}
 use Prim.Native.Nat.{ℕ, _-_, _^_}

@@ -1,4 +1,4 @@
--- From a test at every name to the rule at each, and to a name where it fails. Assumes nothing.
+-- From a test at every name to the rule at each, and to a name where it fails.
 use mathlib.Core.Path.{_≡_, sym}
 use mathlib.Core.Bool.{Bool, true, false, cond, false≢true}
 use Prim.Native.Nat.{ℕ, _+_, _<_}

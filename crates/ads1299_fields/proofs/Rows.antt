@@ -1,4 +1,4 @@
--- The table's rows at every number. Assumes nothing.
+-- The table's rows at every number.
 use mathlib.Core.Path.{_≡_, refl}
 use Prim.Native.Nat.{ℕ, _+_, _≤_, _<_}
 use native.Mathlib.Omega.{arith}

@@ -20,7 +20,7 @@ InField r i = (f : ℕ) × (n : ℕ) × (named f n ≡ true) × (apart (place f 
 abbrev pub Free : ℕ → ℕ → Type 0
 Free r i = (f n : ℕ) → named f n ≡ true → apart (place f n) (bitAt r i) ≡ true
 
--- A place lies within the byte of a register after ID.
+-- a place lies within the byte of a register after ID
 pub record Inside (k : Place) : Type 0 where
   pub after-id : ID < k .register
   pub in-list : k .register < registerCount

@@ -1,4 +1,4 @@
--- The figures hold by computation.
+-- The figures hold, by computation.
 use mathlib.Core.Path.{refl}
 use Rattle.bits.specs.Fields.{field, bit}
 use Rattle.ads1299_codes.specs.Codes.{wordOf}

@@ -1,4 +1,4 @@
--- From the test of a channel to its bounds. Assumes nothing.
+-- From the test of a channel to its bounds.
 use Prim.Native.Nat.{ℕ, _≤_}
 use mathlib.Core.Path.{_≡_}
 use mathlib.Core.Bool.{true}

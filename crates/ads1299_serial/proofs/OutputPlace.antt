@@ -1,4 +1,4 @@
--- An output that is in its frame stays in it. Assumes nothing.
+-- An output that is in its frame stays in it.
 use Prim.Native.Nat.{_+_}
 use mathlib.Core.Path.{_≡_, refl}
 use mathlib.Core.Bool.{Bool, true}

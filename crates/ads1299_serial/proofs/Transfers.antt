@@ -1,4 +1,4 @@
--- The bounds of a transfer that counts its bytes, and how they go on. Assumes nothing.
+-- The bounds of a transfer that counts its bytes, and how they go on.
 use Prim.Native.Nat.{ℕ, _+_, _-_, _<_, _≤_}
 use mathlib.Core.Path.{_≡_, refl}
 use mathlib.Core.Bool.{Bool, true, not, _&&_}

@@ -1,6 +1,5 @@
--- The byte that sets a field passes the masks whole. Assumes nothing.
+-- The byte that sets a field passes the masks whole.
 use mathlib.Core.Path.{refl}
-use Prim.Native.Nat.{_<_}
 use native.Mathlib.Omega.{arith}
 use borrow.Author.Tests.{ltb-true, ltb-false}
 use lib.Dec.{ltb}

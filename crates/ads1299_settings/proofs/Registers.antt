@@ -1,4 +1,4 @@
--- The laws of places in a list of registers, once over place and width; and so of every field. Assumes nothing.
+-- The laws of places in a list of registers, once over place and width; and so of every field.
 use mathlib.Core.Path.{_≡_, sym, _∙_}
 use mathlib.Core.Bool.{true, false, not, _&&_}
 use mathlib.Core.List.{List}

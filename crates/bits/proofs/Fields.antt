@@ -1,4 +1,4 @@
--- The laws of a byte's fields, once over place and width. Assumes nothing.
+-- The laws of a byte's fields, once over place and width.
 use mathlib.Core.Path.{subst, _≡_, sym, _∙_, ap}
 use Prim.Native.Nat.{ℕ, zero, suc, _+_, _*_, _/_, _%_, _^_, _-_, _≤_, _<_}
 use native.Mathlib.Nat.{sub-add-cancel, mod-lt, add-sub-of-le, div-eq-of-lt, zero-mod}

@@ -1,5 +1,5 @@
--- The laws of a write through a mask. Assumes nothing.
-use Prim.Native.Nat.{ℕ, zero, suc, _+_, _-_, _*_, _/_, _%_, _^_, _<_, _≤_, min}
+-- The laws of a write through a mask, by induction on the bits: a masked write of k bits is one of the bits above the lowest, and the lowest.
+use Prim.Native.Nat.{ℕ, zero, suc, _+_, _-_, _*_, _/_, _%_, _^_, _<_, min}
 use mathlib.Core.Path.{_≡_, sym, _∙_, ap}
 use mathlib.Core.Bool.{cond}
 use native.Mathlib.Nat.{pow-suc}

@@ -3,12 +3,8 @@ use Prim.Native.Nat.{ℕ}
 use mathlib.Core.Path.{_≡_, refl, sym, ap, _∙_}
 use mathlib.Core.Bool.{true, false}
 use mathlib.Core.List.{List}
-use lib.IntN.{ℤ}
-use lib.ListN.{length}
 use Rattle.cases.proofs.Cases.{split}
 use Rattle.refusal.specs.First.{accepted}
-use Rattle.request.specs.declared.Request.{Request}
-use Rattle.request.specs.Writing.{written, bufferAfter}
 use Rattle.ads1299.specs.declared.Converter.{Converter}
 use Rattle.ads1299.specs.declared.Moved.{Moved}
 use Rattle.ads1299.specs.declared.Stepped.{Stepped}

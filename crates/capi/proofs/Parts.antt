@@ -1,4 +1,4 @@
--- A channel's part, accepted and refused. Assumes nothing.
+-- A channel's part, accepted and refused.
 use Prim.Native.Nat.{ℕ, _*_}
 use mathlib.Core.Path.{_≡_, sym, _∙_}
 use mathlib.Core.Bool.{false}

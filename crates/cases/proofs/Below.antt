@@ -1,4 +1,4 @@
--- From a computed test to the rule at each number, and to a number where it fails. Assumes nothing.
+-- From a computed test to the rule at each number, and to a number where it fails.
 use mathlib.Core.Path.{_≡_, sym}
 use mathlib.Core.Logic.{inl, inr}
 use mathlib.Core.Bool.{Bool, true, false, false≢true}

@@ -1,4 +1,4 @@
--- Cases on a test. Assumes nothing.
+-- Cases on a test.
 use mathlib.Core.Path.{_≡_, refl}
 use mathlib.Core.Bool.{Bool, true, false, cond, _&&_, false≢true}
 

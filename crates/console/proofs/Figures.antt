@@ -1,4 +1,4 @@
--- One claim about all the figures, by computation. Assumes nothing.
+-- The figures hold, by computation.
 use mathlib.Core.Path.{refl}
 use Rattle.bits.specs.Fields.{field, inserted}
 use Rattle.leb128.specs.Decoding.{decoded}

@@ -1,4 +1,4 @@
--- The longest transcript. Assumes nothing.
+-- The longest transcript.
 use mathlib.Core.List.{List, [], _∷_}
 use Prim.Native.Nat.{ℕ, zero, suc, _*_, _≤_, _<_}
 use native.Mathlib.Omega.{arith}

@@ -1,4 +1,4 @@
--- A session, one request after the other. Assumes nothing.
+-- A session, one request after the other.
 use mathlib.Core.Path.{_≡_, refl, sym, ap, _∙_}
 use mathlib.Core.Bool.{true, false}
 use mathlib.Core.List.{List, [], _++_}

@@ -1,4 +1,4 @@
--- Laws of numbers and bytes as text. Assumes nothing.
+-- Laws of numbers and bytes as text.
 use mathlib.Core.Path.{_≡_, refl, sym, ap, _∙_}
 use mathlib.Core.List.{List, [], _∷_, _++_, append-assoc, append-nil}
 use Prim.Native.Nat.{ℕ, _+_, _*_, _/_, _%_, _≤_, _<_}

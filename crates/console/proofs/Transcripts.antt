@@ -1,4 +1,4 @@
--- The transcript by cases of the input, and as it is written. Assumes nothing.
+-- The transcript by cases of the input, and as it is written.
 use mathlib.Core.Path.{_≡_, refl, sym, ap, _∙_}
 use mathlib.Core.List.{List, [], _∷_}
 use Prim.Native.Nat.{ℕ, _+_, _≤_, _<_}

@@ -1,4 +1,4 @@
--- One request as the code answers it. Assumes nothing.
+-- One request as the code answers it.
 use mathlib.Core.Path.{_≡_, sym, ap, _∙_}
 use mathlib.Core.Bool.{true, false}
 use mathlib.Core.List.{List, []}

@@ -1,4 +1,4 @@
--- Demand 2.
+-- Demand 2: the plan's bytes end in the state that the planner answers (Sent), and of that state the laws of a written field say the rest.
 use mathlib.Core.Path.{_≡_, refl, sym, _∙_}
 use mathlib.Core.Bool.{true, false}
 use Rattle.refusal.specs.First.{accepted}

@@ -1,4 +1,4 @@
--- One claim about all the figures, by computation.
+-- The figures hold, by computation.
 use mathlib.Core.Path.{refl}
 use Rattle.bits.specs.Fields.{field, bit, inserted, masked}
 use Rattle.ads1299_codes.specs.Codes.{wordOf, codeOf}

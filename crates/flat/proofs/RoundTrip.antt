@@ -1,4 +1,4 @@
--- The flat form and back, from either side. Assumes nothing.
+-- The flat form and back, from either side.
 use Prim.Native.Nat.{ℕ, zero, suc}
 use mathlib.Core.Path.{_≡_, refl, sym}
 use mathlib.Core.Bool.{Bool, true, false, _&&_}

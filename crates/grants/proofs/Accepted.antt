@@ -1,4 +1,4 @@
--- An answer's number is its refusal, and what an accepted grant has. Assumes nothing.
+-- An answer's number is its refusal, and what an accepted grant has.
 use Prim.Native.Nat.{ℕ}
 use mathlib.Core.Path.{_≡_, refl, sym}
 use mathlib.Core.Bool.{true}

@@ -1,4 +1,4 @@
--- The figures hold by computation.
+-- The figures hold, by computation.
 use mathlib.Core.Path.{refl}
 use Rattle.ads1299_registers.specs.Table.{powerUp}
 use Rattle.ads1299.specs.PowerUp.{validId, restored, poweredUp}

@@ -1,21 +1,18 @@
--- A grant moves one owner entry and keeps the state valid. Assumes nothing.
-use Prim.Native.Nat.{ℕ, zero, suc, _-_}
+-- A grant moves one owner entry and keeps the state valid.
+use Prim.Native.Nat.{ℕ, _-_}
 use mathlib.Core.Path.{_≡_, refl, sym, _∙_}
 use mathlib.Core.Bool.{true, cond}
-use mathlib.Core.List.{List, [], _∷_}
 use native.Mathlib.Omega.{arith}
 use borrow.Author.Tests.{eqb-true, eqb-false, eq-eqb, ne-eqb}
-use lib.Dec.{leb, eqb}
-use lib.ListN.{length, set}
+use lib.Dec.{eqb}
+use lib.ListN.{length}
 use lib.Seq.{getD-set-same, getD-set-other}
-use Rattle.cases.proofs.Cases.{split, either, and-both}
+use Rattle.cases.proofs.Cases.{split, either}
 use Rattle.refusal.specs.Numbers.{none}
 use Rattle.refusal.specs.First.{accepted}
 use Rattle.ads1299_registers.specs.Addresses.{channelCount}
 use Rattle.ads1299.specs.declared.Converter.{Converter}
 use Rattle.ads1299.specs.declared.Moved.{Moved}
-use Rattle.parties.specs.Parties.{largestParty}
-use Rattle.parties.specs.Owners.{knownOwners}
 use Rattle.ads1299.specs.State.{withOwners, moved}
 use Rattle.ads1299.specs.Validity.{valid}
 use Rattle.ads1299.proofs.ValidState.{parts, whole}

@@ -1,4 +1,4 @@
--- The figures hold by computation. Assumes nothing.
+-- The figures hold, by computation.
 use mathlib.Core.Path.{refl}
 use Rattle.bits.specs.Fields.{field, inserted}
 use Rattle.ads1299_serial.specs.Transfers.{countable}

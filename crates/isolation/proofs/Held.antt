@@ -1,4 +1,4 @@
--- What a state keeps through a list of requests, held to the first state and the reference model's cells. Assumes nothing.
+-- What a state keeps through a list of requests, held to the first state and the reference model's cells: the invariant of every induction over a list.
 use Prim.Native.Nat.{ℕ}
 use mathlib.Core.Path.{_≡_, refl, _∙_, ap}
 use mathlib.Core.Bool.{true, cond, _&&_}

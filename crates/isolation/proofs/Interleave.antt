@@ -1,4 +1,4 @@
--- A merge, told by each party's own list, is what taking heads gives. Assumes nothing.
+-- A merge, told by each party's own list, is what taking heads gives.
 use mathlib.Core.Path.{refl, sym, _∙_, ap}
 use mathlib.Core.List.{List, [], _∷_}
 use borrow.Author.Tests.{eqb-true, eq-eqb}

@@ -1,4 +1,5 @@
--- Any two merges of the parties' lists agree. Assumes nothing.
+-- Any two merges of the parties' lists agree: cell by cell, since a cell goes by its owner's requests alone, and not by exchanging neighbours
+-- in a merge, which would be longer and say less.
 use Prim.Native.Nat.{ℕ}
 use mathlib.Core.Path.{_≡_, refl, sym, _∙_}
 use mathlib.Core.Bool.{true, false≢true}

@@ -1,4 +1,4 @@
--- Every list of requests follows the reference model. Assumes nothing.
+-- Every list of requests follows the reference model: by induction on the list, with Held as its invariant.
 use Prim.Native.Nat.{ℕ}
 use mathlib.Core.Path.{_≡_, refl, _∙_}
 use mathlib.Core.Bool.{Bool, cond, _||_}

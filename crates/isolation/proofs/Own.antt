@@ -1,4 +1,4 @@
--- A party's own cells and bits go by its own requests alone. Assumes nothing.
+-- A party's own cells and bits go by its own requests alone: two runs of the reference model side by side that agree in that party's cells.
 use Prim.Native.Nat.{ℕ}
 use mathlib.Core.Path.{_≡_, refl, sym, _∙_}
 use mathlib.Core.Logic.{_⊎_, inl, inr}

@@ -1,4 +1,5 @@
--- Two plans of one request, made after lists that have the same earlier requests of its party. Assumes nothing.
+-- Two plans of one request, made after lists that have the same earlier requests of its party: Made keeps, for each plan, a state whose own
+-- cells of the party are those of the party alone.
 use Prim.Native.Nat.{ℕ, _<_}
 use mathlib.Core.Path.{_≡_, refl, sym, _∙_, ap}
 use mathlib.Core.Bool.{Bool, true, false, cond, not, _&&_, _||_}

@@ -30,7 +30,7 @@ answersTo party (x ∷ l) (answer ∷ answers) = cond (eqb (x .party) party) (an
 abbrev pub Lists : Type 0
 Lists = ℕ → List Submission
 
--- A list is a merge of the parties' lists: it has each party's requests, all of them and in their order, and no other.
+-- a list is a merge of the parties' lists: it has each party's requests, all of them and in their order, and no other
 abbrev pub Merge : Lists → List Submission → Type 0
 Merge lists l = (party : ℕ) → from party l ≡ lists party
 
@@ -55,7 +55,7 @@ acceptedValues f n (x ∷ l) (number ∷ numbers) =
 unfoldable pub lastAccepted : Converter → ℕ → ℕ → List Submission → List ℕ → ℕ
 lastAccepted s f n l numbers = getLastD (acceptedValues f n l numbers) (firstCells s f n)
 
--- No other party's field has bit i of register r.
+-- no other party's field has bit i of register r
 abbrev pub Own : Converter → ℕ → ℕ → ℕ → Type 0
 Own s party r i =
     (f n : ℕ) → named f n ≡ true
@@ -66,8 +66,8 @@ Own s party r i =
 abbrev pub spread : ℕ → Bool
 spread f = ltb 0 (rowOf f .bitStep)
 
--- Two plans of one request with its number: no bytes where it is refused; else the same bytes around two data bytes, which agree
--- in every bit that no other party's field has, and wholly where the register has no other party's bits.
+-- two plans of one request with its number: no bytes where it is refused; else the same bytes around two data bytes, which agree
+-- in every bit that no other party's field has, and wholly where the register has no other party's bits
 pub record Alike (s : Converter) (x : Submission) (number : ℕ) (first second : List ℕ) : Type 0 where
   pub one : ℕ
   pub other : ℕ

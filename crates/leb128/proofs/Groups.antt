@@ -1,4 +1,4 @@
--- One group of a number: what it reads as and how it is written. Assumes nothing.
+-- One group of a number: what it reads as and how it is written.
 use mathlib.Core.List.{List, [], _∷_}
 use mathlib.Core.Path.{_≡_, refl}
 use Prim.Native.Nat.{ℕ, suc, _+_, _-_, _*_, _/_, _%_, _≤_, _<_}

@@ -1,4 +1,4 @@
--- Reading undoes writing and writing undoes reading, in at most k groups. Assumes nothing.
+-- Reading undoes writing and writing undoes reading: by induction on the number of groups, one group at a time.
 use mathlib.Core.Bool.{true}
 use mathlib.Core.List.{List, [], _∷_, _++_}
 use mathlib.Core.Path.{_≡_, refl, ap}

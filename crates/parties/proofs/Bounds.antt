@@ -1,4 +1,4 @@
--- From the test of a party to its bound. Assumes nothing.
+-- From the test of a party to its bound.
 use Prim.Native.Nat.{ℕ, _≤_}
 use mathlib.Core.Path.{_≡_}
 use mathlib.Core.Bool.{true}

@@ -1,4 +1,4 @@
--- The figures hold, by computation. Assumes nothing.
+-- The figures hold, by computation.
 use mathlib.Core.Path.{refl}
 use Rattle.parties.specs.Parties.{knownParty, isAdmin}
 use Rattle.parties.specs.Owners.{ownerOf, owns}

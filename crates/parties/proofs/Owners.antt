@@ -1,4 +1,4 @@
--- Known owners: each entry is a party, and stays one where a party is entered. Assumes nothing.
+-- Known owners: each entry is a party, and stays one where a party is entered.
 use Prim.Native.Nat.{ℕ, zero, suc}
 use mathlib.Core.Path.{_≡_, refl}
 use mathlib.Core.Bool.{true}

@@ -1,4 +1,4 @@
--- What an accepted request has passed, and that it changes no later judgement. Assumes nothing.
+-- What an accepted request has passed, and that it changes no later judgement.
 use Prim.Native.Nat.{ℕ, _≤_}
 use mathlib.Core.Path.{_≡_, refl, sym, _∙_, fun-ext}
 use mathlib.Core.Bool.{true, false, false≢true}

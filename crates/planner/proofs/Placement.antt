@@ -1,17 +1,17 @@
 -- Where a plan lies in the transmit buffer.
-use Prim.Native.Nat.{ℕ, _+_, _≤_}
-use mathlib.Core.Path.{subst, _≡_, refl, sym}
+use Prim.Native.Nat.{ℕ, _+_}
+use mathlib.Core.Path.{subst, _≡_, refl}
 use mathlib.Core.List.{List}
 use mathlib.Core.Bool.{true}
 use borrow.Author.Tests.{eqb-true}
-use lib.ListN.{length, take, drop}
+use lib.ListN.{take, drop}
 use Rattle.cases.proofs.Cases.{split}
 use Rattle.refusal.specs.First.{accepted}
 use Rattle.splice.specs.Splice.{spliced}
 use Rattle.splice.specs.Laws.{Laid}
 use Rattle.splice.proofs.Splice.{fitting-laid}
 use Rattle.planner.specs.Submission.{submission}
-use Rattle.planner.specs.Plan.{planOf, planLength}
+use Rattle.planner.specs.Plan.{planOf}
 use Rattle.planner.specs.Planned.{refusalOf, plan}
 use Rattle.planner.specs.Buffer.{txAfter}
 use Rattle.planner.specs.Placement.{Placement}

@@ -1,19 +1,17 @@
--- What an accepted reading has. Assumes nothing.
-use Prim.Native.Nat.{ℕ, _≤_}
+-- What an accepted reading has.
+use Prim.Native.Nat.{ℕ}
 use mathlib.Core.Path.{_≡_, refl}
 use mathlib.Core.Bool.{true}
 use mathlib.Core.List.{List}
-use borrow.Author.Tests.{leb-true, eqb-true, not-false}
-use lib.Dec.{leb, eqb}
+use borrow.Author.Tests.{eqb-true, not-false}
+use lib.Dec.{eqb}
 use lib.ListN.{length}
 use Rattle.cases.proofs.Cases.{and-both}
 use Rattle.refusal.specs.Numbers.{none}
 use Rattle.refusal.proofs.First.{exact}
-use Rattle.ads1299_registers.specs.Addresses.{channelCount}
 use Rattle.ads1299_frame.specs.Frame.{frameLength, frameMark}
 use Rattle.ads1299_readout.specs.Reading.{leadingBits, isFrame}
 use Rattle.ads1299.specs.declared.Converter.{Converter}
-use Rattle.parties.specs.Parties.{largestParty}
 use Rattle.ads1299.specs.Validity.{valid}
 use Rattle.parties.specs.Parties.{knownParty}
 use Rattle.parties.specs.Owners.{owns}

@@ -1,4 +1,4 @@
--- A reading depends on nothing but what `Alike` lists. Assumes nothing.
+-- A reading depends on nothing but what `Alike` lists.
 use Prim.Native.Nat.{ℕ}
 use mathlib.Core.Path.{_≡_}
 use mathlib.Core.List.{List}

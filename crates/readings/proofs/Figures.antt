@@ -1,4 +1,4 @@
--- The figures hold by computation.
+-- The figures hold, by computation.
 use mathlib.Core.Path.{refl}
 use Rattle.bits.specs.Fields.{field, bit}
 use Rattle.ads1299_codes.specs.Codes.{codeOf}
@@ -9,7 +9,6 @@ use Rattle.ads1299.specs.PowerUp.{validId, restored, poweredUp}
 use Rattle.ads1299.specs.Validity.{validConverter, valid}
 use Rattle.parties.specs.Parties.{knownParty}
 use Rattle.parties.specs.Owners.{ownerOf, owns}
-use Rattle.ads1299_registers.specs.Channels.{isChannel}
 use Rattle.readings.specs.Reading.{readingRefusal, channelReading, partBytes}
 use Rattle.readings.specs.Figures.{FiguresHold}
 

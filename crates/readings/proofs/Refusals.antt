@@ -1,4 +1,4 @@
--- An answer's number is its refusal, and the two reading calls are refused together. Assumes nothing.
+-- An answer's number is its refusal, and the two reading calls are refused together.
 use Prim.Native.Nat.{ℕ}
 use mathlib.Core.Path.{_≡_, sym}
 use mathlib.Core.List.{List}

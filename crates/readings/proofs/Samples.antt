@@ -1,8 +1,8 @@
--- A channel's owner reads what was sampled. Assumes nothing.
-use Prim.Native.Nat.{ℕ, zero, suc, _+_, _-_, _<_}
+-- A channel's owner reads what was sampled.
+use Prim.Native.Nat.{ℕ, _+_, _-_, _<_}
 use mathlib.Core.Path.{_≡_, refl, sym, _∙_, ap}
 use mathlib.Core.Bool.{true}
-use mathlib.Core.List.{List, [], _∷_}
+use mathlib.Core.List.{List}
 use native.Mathlib.Omega.{arith}
 use borrow.Author.Tests.{eqb-true, eqb-false, eq-eqb, not-false}
 use lib.Dec.{leb, eqb}
@@ -22,7 +22,6 @@ use Rattle.ads1299_readout.proofs.RoundTrip.{frames-read-back}
 use Rattle.ads1299.specs.declared.Converter.{Converter}
 use Rattle.ads1299.specs.declared.Moved.{Moved}
 use Rattle.parties.specs.Parties.{largestParty}
-use Rattle.parties.specs.Owners.{knownOwners}
 use Rattle.ads1299.specs.Validity.{valid}
 use Rattle.ads1299.specs.Output.{loaded}
 use Rattle.ads1299.specs.Sample.{complete, sampleRefusals, sampleRefusal, withStatus, framed, taken, sampled}

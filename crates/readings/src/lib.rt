@@ -1,8 +1,6 @@
 // Readings: what a channel's owner sees of a frame.
 ghost use mathlib.Core.Path.{_≡_};
 ghost use Prim.Native.Nat.{_+_};
-ghost use Rattle.parties.specs.Owners.{ownerOf, owns};
-ghost use Rattle.ads1299_registers.specs.Channels.{isChannel};
 ghost use Rattle.readings.specs.Reading.{readingRefusal, channelReading, partBytes, partPlace};
 use ads1299::Converter;
 

@@ -1,4 +1,4 @@
--- The worked figures, by computation. Assumes nothing.
+-- The figures hold, by computation.
 use mathlib.Core.Path.{refl}
 use Rattle.leb128.specs.Encoding.{encoded}
 use Rattle.leb128.specs.Decoding.{decoded}

@@ -1,4 +1,4 @@
--- Bytes in an array that is longer, 0 past them. Assumes nothing.
+-- Bytes in an array that is longer, 0 past them.
 use mathlib.Core.List.{List, [], _++_, append-nil, append-assoc}
 use mathlib.Core.Path.{_≡_, sym, ap, _∙_}
 use Prim.Native.Nat.{ℕ, _+_, _-_, _≤_}

@@ -1,4 +1,4 @@
--- The reader's answer, by which of the three numbers is refused, and where they end. Assumes nothing.
+-- The reader's answer, by which of the three numbers is refused, and where they end.
 use mathlib.Core.List.{List}
 use mathlib.Core.Path.{_≡_}
 use Prim.Native.Nat.{ℕ, _+_, _≤_}

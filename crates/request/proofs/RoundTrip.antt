@@ -1,4 +1,4 @@
--- Reading undoes writing and writing undoes reading. Assumes nothing.
+-- Reading undoes writing and writing undoes reading.
 use mathlib.Core.Bool.{true}
 use mathlib.Core.List.{List, [], _∷_, _++_, append-assoc}
 use mathlib.Core.Path.{_≡_, refl, sym, ap, _∙_}

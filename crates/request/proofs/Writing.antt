@@ -1,4 +1,4 @@
--- The writer's answer and the buffer, case by case. Assumes nothing.
+-- The writer's answer and the buffer, case by case.
 use mathlib.Core.Bool.{true, false}
 use mathlib.Core.List.{List}
 use mathlib.Core.Path.{_≡_}

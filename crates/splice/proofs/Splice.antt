@@ -1,4 +1,4 @@
--- The laws of bytes that are laid over a buffer. Assumes nothing.
+-- The laws of bytes that are laid over a buffer.
 use Prim.Native.Nat.{ℕ, suc, _+_, _-_, _≤_}
 use mathlib.Core.Path.{_≡_, sym, ap, _∙_}
 use mathlib.Core.List.{List, [], _∷_, _++_, append-nil, append-assoc}

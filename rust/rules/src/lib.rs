@@ -1,4 +1,5 @@
 //! The index docs/RULES.md held to the repository: what it names must exist, and what must be named there is.
+//! A theorem that it names has exactly a claim of specs/ as its type.
 //!
 //! A name stands in backticks and is of one of these forms:
 //!
@@ -170,4 +171,59 @@ pub fn definition_files() -> Vec<String> {
         }
     }
     found
+}
+
+/// Every theorem of a crate's proofs/ whose type is one name, as `crate.proofs.File.theorem` with that name. A claim is such a
+/// name: a closed type of specs/, with every hypothesis in it.
+pub fn theorems() -> Vec<(String, String)> {
+    let mut found = Vec::new();
+    for krate in libraries() {
+        let Ok(entries) = fs::read_dir(root().join("crates").join(&krate).join("proofs")) else {
+            continue;
+        };
+        for path in entries.flatten().map(|entry| entry.path()) {
+            if path.is_dir() {
+                continue;
+            }
+            let stem = path.file_stem().unwrap().to_string_lossy().into_owned();
+            for line in read(&path).lines() {
+                let words: Vec<_> = line.split_whitespace().collect();
+                if let ["pub", theorem, ":", claim] = words[..] {
+                    if line.starts_with("pub ") && claim.starts_with(char::is_uppercase) {
+                        found.push((format!("{krate}.proofs.{stem}.{theorem}"), claim.to_owned()));
+                    }
+                }
+            }
+        }
+    }
+    found
+}
+
+/// Whether some specs/ declares this claim, as a closed type.
+pub fn is_claim(name: &str) -> bool {
+    let openings = [
+        format!("abbrev pub {name} : Type 0"),
+        format!("pub record {name} : Type 0 where"),
+    ];
+    libraries().iter().any(|krate| {
+        files(&root().join("crates").join(krate).join("specs"), ".antt")
+            .iter()
+            .any(|path| {
+                read(path)
+                    .lines()
+                    .any(|line| openings.iter().any(|opening| line == opening))
+            })
+    })
+}
+
+/// Whether a wrong build changes a definition and not the code.
+pub fn changes_definition(krate: &str, label: &str) -> bool {
+    let path = root()
+        .join("crates")
+        .join(krate)
+        .join("must-fail")
+        .join(format!("{label}.edit"));
+    read(&path)
+        .lines()
+        .any(|line| line.starts_with("file: specs/"))
 }

@@ -1,6 +1,9 @@
 //! docs/RULES.md names only what is there, and leaves out no wrong build, no public function and no file of definitions.
 
-use rules::{definition_files, exists, names, public_functions, wrong_builds};
+use rules::{
+    changes_definition, definition_files, exists, is_claim, names, public_functions, theorems,
+    wrong_builds,
+};
 
 #[test]
 fn every_name_exists() {
@@ -51,6 +54,43 @@ fn every_file_of_definitions_is_named() {
         .filter(|file| !is_named(file))
         .collect();
     assert!(lost.is_empty(), "docs/RULES.md has no row with {lost:#?}");
+}
+
+#[test]
+fn every_theorem_here_is_a_claim_of_specs() {
+    let closed: Vec<_> = theorems()
+        .into_iter()
+        .filter(|(_, claim)| is_claim(claim))
+        .map(|(theorem, _)| theorem)
+        .collect();
+    let open: Vec<_> = names()
+        .into_iter()
+        .filter(|name| name.contains(".proofs.") && !closed.contains(name))
+        .collect();
+    assert!(open.is_empty(), "not of exactly a claim's type: {open:#?}");
+}
+
+#[test]
+fn every_theorem_of_a_claim_is_named() {
+    let names = names();
+    assert!(theorems().len() > 40);
+    let lost: Vec<_> = theorems()
+        .into_iter()
+        .filter(|(theorem, claim)| is_claim(claim) && !names.contains(theorem))
+        .collect();
+    assert!(lost.is_empty(), "docs/RULES.md has no row with {lost:#?}");
+}
+
+#[test]
+fn every_changed_definition_is_marked() {
+    let unmarked: Vec<_> = wrong_builds()
+        .into_iter()
+        .filter(|build| {
+            let (krate, label) = build.split_once('/').unwrap();
+            changes_definition(krate, label) != label.starts_with("spec_")
+        })
+        .collect();
+    assert!(unmarked.is_empty(), "spec_ or not: {unmarked:#?}");
 }
 
 #[test]

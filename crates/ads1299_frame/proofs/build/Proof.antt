@@ -5,7 +5,6 @@ use Rattle.ads1299_codes.proofs.Words.{length-bytes}
 use Rattle.ads1299_frame.specs.Frame.{frameWord, frameOf}
 use Prim.Native.Nat.{ℕ, _≤_, _+_, _-_, _*_}
 use borrow.Author.Needs.{needs}
-use denote.Ref.{now}
 use lib.ListN.{length, take, drop, length-append}
 use lib.Seq.{take-at, take-all, length-take-le}
 use Rattle.splice.specs.Splice.{spliced}

@@ -1,6 +1,6 @@
 use Rattle.ads1299_frame.proofs.put.Statement.{statement}
 use Rattle.ads1299_frame.proofs.put.Tie as tie
-use Prim.Native.Nat.{ℕ, suc, _+_, _*_, _<_}
+use Prim.Native.Nat.{ℕ, _+_, _*_}
 use borrow.Author.Needs.{needs}
 use lib.ListN.{length, getD, set}
 use lib.Seq.{sets}

@@ -3,7 +3,6 @@ use Rattle.ads1299_frame.proofs.status_bytes.Tie as tie
 use Rattle.ads1299_codes.specs.Words.{wordBytes}
 use Rattle.ads1299_frame.specs.Frame.{frameMark, statusWord}
 use Prim.Native.Nat.{_+_, _*_, _/_, _%_, _^_}
-use borrow.Author.Needs.{needs}
 use mathlib.Core.Path.{_≡_}
 use native.Mathlib.Omega.{arith}
 

@@ -6,7 +6,7 @@ use Rattle.ads1299_frame.specs.Frame.{frameWord}
 use borrow.Author.Needs.{needs}
 use borrow.Author.Tests.{eq-eqb, ne-eqb}
 use lib.IntN.{ℤ}
-use mathlib.Core.Path.{_≡_, _∙_, ap}
+use mathlib.Core.Path.{_∙_, ap}
 use mir.Facts.{toZ-ofZ}
 
 pub word-bytes-spec : {M : Type 1} → statement M

@@ -1,6 +1,5 @@
 use Rattle.ads1299_registers.proofs.is_channel.Statement.{statement}
 use Rattle.ads1299_registers.proofs.is_channel.Tie as tie
-use Rattle.ads1299_registers.specs.Channels.{isChannel}
 use borrow.Author.Needs.{needs}
 use borrow.Author.Tests.{le-leb, lt-leb}
 

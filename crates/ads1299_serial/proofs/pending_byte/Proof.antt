@@ -1,7 +1,6 @@
 use Rattle.ads1299_serial.proofs.pending_byte.Statement.{statement}
 use Rattle.ads1299_serial.proofs.pending_byte.Tie as tie
 use borrow.Author.Needs.{needs}
-use borrow.Author.Tests.{lt-ltb}
 use lib.ListN.{length, List·getD-eq-default}
 use mathlib.Core.Path.{_≡_, sym}
 use native.Mathlib.Omega.{arith}
@@ -15,7 +14,7 @@ pending-byte-spec =
     (λ c. search needs)
     (λ c. search needs)
     (λ c. search needs)
-    (λ c. simp (c .before .before .output .given .1, lt-ltb _ _ (c .if1 .taken)))
+    (λ c. simp (c .before .before .output .given .1))
     (λ c.
     let xs = c .before .before .before .before .args .t2 in
     let n : length xs ≡ 27 = search needs in

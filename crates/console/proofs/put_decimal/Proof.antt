@@ -1,8 +1,6 @@
 use borrow.Author.Needs.{needs}
 use mathlib.Core.Path.{refl, ap, _∙_, sym}
-use mathlib.Core.List.{List}
 use native.Mathlib.Omega.{arith}
-use Prim.Native.Nat.{ℕ}
 use lib.ListN.{length, length-set}
 use Rattle.splice.specs.Splice.{spliced}
 use Rattle.console.proofs.Storing.{one, two}

@@ -1,8 +1,6 @@
 use Rattle.ads1299.proofs.Converter.is_running.Statement.{statement}
 use Rattle.ads1299.proofs.Converter.is_running.Tie as tie
 use Rattle.cases.proofs.Cases.{split}
-use mathlib.Core.Bool.{true, false, not, _&&_}
-use mathlib.Core.Path.{_≡_}
 
 -- the code asks first for standby, the definition first for converting
 pub is-running-spec : {M : Type 1} → statement M
