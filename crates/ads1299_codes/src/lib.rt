@@ -7,6 +7,9 @@ const LOWEST: i32 = -8388608;
 
 const HIGHEST: i32 = 8388607;
 
+// How many bytes a word of 24 bits has.
+pub const WORD_LENGTH: usize = 3;
+
 // How many words of 24 bits there are.
 const WORD_COUNT: u32 = 0x1000000;
 
@@ -63,7 +66,7 @@ fn word_of(code: i32) -> u32
 }
 
 // The three bytes of a code, high byte first. A code out of range is cut to its low 24 bits.
-pub fn code_bytes(code: i32) -> [u8; 3]
+pub fn code_bytes(code: i32) -> [u8; WORD_LENGTH]
     ensures { λ r. ⌜ r ≡ wordBytes (wordOf code) ⌝ }
 {
     let word = word_of(code);

@@ -3,8 +3,9 @@ ghost use mathlib.Core.Path.{_≡_};
 ghost use Prim.Native.Nat.{_*_, _<_, _≤_};
 ghost use Rattle.splice.specs.Splice.{spliced};
 ghost use Rattle.ads1299_registers.specs.Addresses.{channelCount};
-ghost use Rattle.ads1299_codes.specs.Words.{wordBytes};
+ghost use Rattle.ads1299_codes.specs.Words.{wordLength, wordBytes};
 ghost use Rattle.ads1299_frame.specs.Frame.{shown, statusWord, frameWord, frameOf};
+use ads1299_codes::WORD_LENGTH;
 
 // The bytes of a frame: a word for the status and one for each channel.
 pub const LENGTH: usize = 27;
@@ -25,7 +26,7 @@ fn shown(registers: [u8; ads1299_registers::COUNT], codes: &[i32], channel: usiz
 }
 
 // The three bytes of the status word, in which P and N lie each across two bytes.
-fn status_bytes(p: u8, n: u8, gpio: u8) -> [u8; 3]
+fn status_bytes(p: u8, n: u8, gpio: u8) -> [u8; WORD_LENGTH]
     ensures { λ r. ⌜ r ≡ wordBytes (statusWord p n gpio) ⌝ }
 {
     [
@@ -42,7 +43,7 @@ fn word_bytes(
     p: u8,
     n: u8,
     i: usize,
-) -> [u8; 3]
+) -> [u8; WORD_LENGTH]
     requires { ⌜ i ≤ channelCount ⌝ }
     ensures { λ r. ⌜ r ≡ wordBytes (frameWord registers (now (codes .entry)) p n i) ⌝ }
 {
@@ -54,12 +55,12 @@ fn word_bytes(
 }
 
 // The frame with the bytes of word i in their place.
-fn put(frame: [u8; LENGTH], i: usize, bytes: [u8; 3]) -> [u8; LENGTH]
+fn put(frame: [u8; LENGTH], i: usize, bytes: [u8; WORD_LENGTH]) -> [u8; LENGTH]
     requires { ⌜ i ≤ channelCount ⌝ }
-    ensures { λ r. ⌜ r ≡ spliced frame (3 * i) bytes ⌝ }
+    ensures { λ r. ⌜ r ≡ spliced frame (wordLength * i) bytes ⌝ }
 {
     let mut next = frame;
-    let at = 3 * i;
+    let at = WORD_LENGTH * i;
     next[at] = bytes[0];
     next[at + 1] = bytes[1];
     next[at + 2] = bytes[2];

@@ -8,7 +8,7 @@ use lib.IntN.{ℤ}
 use lib.ListN.{length, take, drop, getD}
 use Rattle.bits.specs.Fields.{field, bit}
 use Rattle.ads1299_codes.specs.Codes.{codeOf}
-use Rattle.ads1299_codes.specs.Words.{wordAt}
+use Rattle.ads1299_codes.specs.Words.{wordLength, wordAt}
 use Rattle.ads1299_frame.specs.Frame.{frameMark, frameLength}
 
 -- gives the first four bits of a list of bytes
@@ -21,7 +21,7 @@ isFrame frame = eqb (length frame) frameLength && eqb (leadingBits frame) frameM
 
 -- gives the three bytes of a channel; channel 0 has those of the status word
 unfoldable pub channelBytes : List ℕ → ℕ → List ℕ
-channelBytes frame channel = take 3 (drop (3 * channel) frame)
+channelBytes frame channel = take wordLength (drop (wordLength * channel) frame)
 
 -- gives the code of a channel; channel 0 has that of the status word, and missing bytes count as 0
 unfoldable pub codeAt : List ℕ → ℕ → ℤ

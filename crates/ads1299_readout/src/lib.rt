@@ -4,6 +4,7 @@ ghost use Prim.Native.Nat.{_-_};
 ghost use lib.ListN.{getD};
 ghost use Rattle.bits.specs.Fields.{bit};
 ghost use Rattle.ads1299_readout.specs.Reading.{isFrame, codeAt, leadOffP, leadOffN};
+use ads1299_codes::WORD_LENGTH;
 
 // The byte at a place of a frame; a missing byte counts as 0.
 fn byte_at(frame: &[u8], at: usize) -> u8
@@ -27,7 +28,7 @@ pub fn is_frame(frame: &[u8]) -> bool
 pub fn channel_code(frame: &[u8], channel: u32) -> i32
     ensures { λ r. ⌜ r ≡ codeAt (now (frame .entry)) channel ⌝ }
 {
-    let at = 3 * (channel as usize);
+    let at = WORD_LENGTH * (channel as usize);
     ads1299_codes::code(
         byte_at(frame, at),
         byte_at(frame, at + 1),

@@ -9,6 +9,7 @@ use crate::FlatMoved;
 use crate::FlatPart;
 use crate::FlatReading;
 use ads1299::Converter;
+use ads1299_codes::WORD_LENGTH;
 use flat::FlatConverter;
 
 #[no_mangle]
@@ -77,7 +78,7 @@ fn locate_part(converter: Converter, party: u32, channel: u32, frame: &[u8]) -> 
     if reading.refusal == refusal::NONE {
         FlatPart {
             refusal: refusal::NONE,
-            start: 3 * channel as usize,
+            start: WORD_LENGTH * channel as usize,
             length: readings::channel_bytes(converter, party, channel, frame).len(),
         }
     } else {

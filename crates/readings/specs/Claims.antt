@@ -9,7 +9,7 @@ use Rattle.refusal.specs.Numbers.{none}
 use Rattle.refusal.specs.First.{accepted}
 use Rattle.bits.specs.Fields.{bit}
 use Rattle.ads1299_codes.specs.Codes.{wordOf}
-use Rattle.ads1299_codes.specs.Words.{wordBytes}
+use Rattle.ads1299_codes.specs.Words.{wordLength, wordBytes}
 use Rattle.ads1299_frame.specs.Frame.{shown}
 use Rattle.ads1299_readout.specs.Reading.{leadingBits, channelBytes, leadOffP, leadOffN}
 use Rattle.ads1299.specs.declared.Converter.{Converter}
@@ -47,7 +47,7 @@ EqualReadings =
 abbrev pub ThreeOrNone : Type 0
 ThreeOrNone =
     (s : Converter) (party channel : ℕ) (frame : List ℕ)
-    → length (partBytes s party channel frame) ≡ cond (accepted (channelReading s party channel frame .refusal)) 3 0
+    → length (partBytes s party channel frame) ≡ cond (accepted (channelReading s party channel frame .refusal)) wordLength 0
 
 -- a party reads from the latest frame what was sampled: the channel's code, or 0 where it is powered down, and its bits of P and N
 pub record ReadsSample (registers : List ℕ) (codes : List ℤ) (p n party channel : ℕ) (next : Converter) : Type 0 where

@@ -5,6 +5,7 @@ use mathlib.Core.List.{List, [], _∷_}
 use lib.IntN.{ℤ, pos}
 use Rattle.refusal.specs.Numbers.{none, unknownParty, wrongChannel, notOwner, badFrame, invalidState}
 use Rattle.refusal.specs.First.{firstOf, accepted}
+use Rattle.ads1299_codes.specs.Words.{wordLength}
 use Rattle.ads1299_readout.specs.Reading.{isFrame, channelBytes, codeAt, leadOffP, leadOffN}
 use Rattle.ads1299.specs.declared.Converter.{Converter}
 use Rattle.ads1299.specs.Validity.{valid}
@@ -45,4 +46,4 @@ partBytes s party channel frame =
 
 -- gives the place in the caller's frame where that part starts; document 01 leaves open where an empty one does, and the frame's start was chosen
 unfoldable pub partPlace : Converter → ℕ → ℕ → List ℕ → ℕ
-partPlace s party channel frame = cond (accepted (readingRefusal s party channel frame)) (3 * channel) 0
+partPlace s party channel frame = cond (accepted (readingRefusal s party channel frame)) (wordLength * channel) 0

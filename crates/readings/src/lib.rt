@@ -3,6 +3,7 @@ ghost use mathlib.Core.Path.{_≡_};
 ghost use Prim.Native.Nat.{_+_};
 ghost use Rattle.readings.specs.Reading.{readingRefusal, channelReading, partBytes, partPlace};
 use ads1299::Converter;
+use ads1299_codes::WORD_LENGTH;
 
 // A channel's code and its bits of P and N.
 pub struct Reading {
@@ -62,8 +63,8 @@ pub fn channel_bytes(converter: Converter, party: u32, channel: u32, frame: &[u8
 {
     let number = refuse_reading(converter, party, channel, frame);
     if number == refusal::NONE {
-        let start = 3 * channel as usize;
-        let end = start + 3;
+        let start = WORD_LENGTH * channel as usize;
+        let end = start + WORD_LENGTH;
         &frame[start..end]
     } else {
         &frame[0..0]

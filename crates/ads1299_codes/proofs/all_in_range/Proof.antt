@@ -1,3 +1,4 @@
+-- The loop keeps that what is left decides: an invariant about the rest of the list, not about what was passed.
 use Rattle.ads1299_codes.proofs.all_in_range.Statement.{statement}
 use Rattle.ads1299_codes.proofs.all_in_range.Tie as tie
 use Rattle.ads1299_codes.specs.Codes.{allInRange}
@@ -14,7 +15,6 @@ use mir.Syntax.{w32}
 use native.Mathlib.Numerals.{add-one}
 use native.Mathlib.Omega.{arith}
 
--- what is tested so far does not decide
 abbrev Inv-loop : tie.InvT-loop
 Inv-loop codes i₀ i = (i ≤ length codes) × (allInRange codes ≡ allInRange (drop i codes))
 

@@ -1,3 +1,4 @@
+-- The loop keeps that the words put so far stand at the start of the frame, and that it has its length.
 use Rattle.ads1299_frame.proofs.build.Statement.{statement}
 use Rattle.ads1299_frame.proofs.build.Tie as tie
 use Rattle.ads1299_codes.specs.Words.{wordBytes, joined}

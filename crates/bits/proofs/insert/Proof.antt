@@ -1,3 +1,4 @@
+-- The sum of the three parts stays a byte since the value fits its field; the bounds of each part are had once, in a record.
 use Prim.Native.Nat.{ℕ, _+_, _*_, _/_, _%_, _^_, _<_, _≤_}
 use Rattle.bits.proofs.Fields.{inserted-lt}
 use Rattle.bits.proofs.insert.Statement.{statement}

@@ -1,3 +1,4 @@
+-- The loop keeps that what is written, with the lines of the rest laid after it, is the whole transcript: nothing is said of the requests passed.
 use borrow.Author.Needs.{needs}
 use borrow.Rule.Slice.PartAt.{part-to-end}
 use native.Mathlib.Omega.{arith}
@@ -14,7 +15,6 @@ use Rattle.console.proofs.Sessions.{no-more, room, goes-on, text-length
 use Rattle.console.proofs.answer_all.Statement.{statement}
 use Rattle.console.proofs.answer_all.Tie as tie
 
--- what is written, with the lines of what is left after it, is the whole
 abbrev Inv-loop : tie.InvT-loop
 Inv-loop party bytes out₀ converter₀ at₀ place₀ out converter at place =
     (at ≤ length bytes) × ((length out ≡ length out₀) × ((length (session fresh party bytes) ≡ place + length (session converter party (drop at bytes))) × (spliced out₀ 0 (session fresh party bytes) ≡ spliced out place (session converter party (drop at bytes)))))

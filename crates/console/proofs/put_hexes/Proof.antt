@@ -1,3 +1,4 @@
+-- The loop keeps that the digits of the bytes so far lie in the buffer, and that it has its length.
 use native.Mathlib.Omega.{arith}
 use native.Mathlib.Nat.{le-antisymm}
 use mathlib.Core.Path.{_≡_, refl, sym, ap, _∙_}
@@ -12,7 +13,6 @@ use Rattle.console.proofs.Texts.{length-hex, length-hexes, next-hex}
 use Rattle.console.proofs.put_hexes.Statement.{statement}
 use Rattle.console.proofs.put_hexes.Tie as tie
 
--- the digits of the bytes so far lie in the buffer
 abbrev Inv-loop : tie.InvT-loop
 Inv-loop out₀ at bytes place₀ i₀ out place i = (i ≤ length bytes) × ((place ≡ at + 3 * i) × ((out ≡ spliced out₀ at (hexes (take i bytes))) × (length out ≡ length out₀)))
 

@@ -1,3 +1,4 @@
+-- The definition reads group by group, over any number of groups; the code looks at both bytes at once. The laws below join the two.
 use borrow.Author.Needs.{needs}
 use mathlib.Core.List.{List}
 use mathlib.Core.Path.{_≡_, sym, _∙_}

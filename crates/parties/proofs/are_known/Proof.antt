@@ -1,3 +1,4 @@
+-- The loop keeps that what is left decides: an invariant about the rest of the list, not about what was passed.
 use Prim.Native.Nat.{_≤_, _-_}
 use Rattle.parties.proofs.are_known.Statement.{statement}
 use Rattle.parties.proofs.are_known.Tie as tie
@@ -11,7 +12,6 @@ use mathlib.Core.Path.{_≡_, refl}
 use native.Mathlib.Numerals.{add-one}
 use native.Mathlib.Omega.{arith}
 
--- the owners passed are known, so the rest decides
 abbrev Inv-loop : tie.InvT-loop
 Inv-loop owners i₀ i = (i ≤ length owners) × (knownOwners owners ≡ knownOwners (drop i owners))
 

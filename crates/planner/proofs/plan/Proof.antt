@@ -1,3 +1,4 @@
+-- The part that was lent comes back as the middle of the buffer (Buffer); and every state that the code is given is formed, which only a function can show.
 use borrow.Author.Needs.{needs}
 use mathlib.Core.Path.{_≡_, refl, sym, _∙_, ap}
 use Prim.Native.Nat.{ℕ, _<_}

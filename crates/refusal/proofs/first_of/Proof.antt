@@ -1,3 +1,4 @@
+-- The loop keeps that what is left decides: an invariant about the rest of the list, not about what was passed.
 use Prim.Native.Nat.{_≤_, _-_}
 use Rattle.refusal.proofs.first_of.Statement.{statement}
 use Rattle.refusal.proofs.first_of.Tie as tie
@@ -11,7 +12,6 @@ use mathlib.Core.Path.{_≡_, refl}
 use native.Mathlib.Numerals.{add-one}
 use native.Mathlib.Omega.{arith}
 
--- the numbers passed are 0, so the rest decides
 abbrev Inv-loop : tie.InvT-loop
 Inv-loop numbers i₀ i = (i ≤ length numbers) × (firstGiven numbers ≡ firstGiven (drop i numbers))
 
