@@ -12,7 +12,7 @@ use Rattle.planner.specs.Planned.{plan, planned}
 use Rattle.planner.specs.Buffer.{txAfter}
 
 -- the plan lies in the buffer from the place on; every byte before and after it is as it was
-pub record Laid (s : Converter) (x : Submission) (tx : List ℕ) (at : ℕ) : Type 0 where
+pub record InPlace (s : Converter) (x : Submission) (tx : List ℕ) (at : ℕ) : Type 0 where
   pub bytes : take (planLength s) (drop at (txAfter s x tx at)) ≡ plan s x
   pub before : take at (txAfter s x tx at) ≡ take at tx
   pub after : drop (at + planLength s) (txAfter s x tx at) ≡ drop (at + planLength s) tx
@@ -20,7 +20,7 @@ pub record Laid (s : Converter) (x : Submission) (tx : List ℕ) (at : ℕ) : Ty
 -- the buffer keeps its length; an accepted request's plan lies in it, and a refused request leaves it as it was
 pub record Placed (s : Converter) (x : Submission) (tx : List ℕ) (at : ℕ) : Type 0 where
   pub size : length (txAfter s x tx at) ≡ length tx
-  pub accepted : planned s x .refusal ≡ none → Laid s x tx at
+  pub accepted : planned s x .refusal ≡ none → InPlace s x tx at
   pub refused : (planned s x .refusal ≡ none → ⊥) → txAfter s x tx at ≡ tx
 
 -- Every request for a place of a buffer is so placed, its room being what the buffer has from there on.

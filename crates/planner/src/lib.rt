@@ -53,7 +53,7 @@ fn plan_length(c: Converter) -> usize
     ensures { λ r. ⌜ r ≡ planLength c ⌝ }
 {
     if c.standby {
-        if c.continuous { 7 } else { 5 }
+        if c.continuous { LONGEST } else { 5 }
     } else {
         if c.continuous { 5 } else { 3 }
     }
