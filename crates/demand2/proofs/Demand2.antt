@@ -22,8 +22,8 @@ module _ (s : Converter) (x : Submission) where
       let p = passed s x a in
       let r = x .request in
       let w = written (s .registers) (r .field) (r .channel) (r .value) (h .registers .size) (p .set) in
-      let c : planned s x .next ≡ changed s x = rw a in
-      let e : sent s x ≡ changed s x = sent-plan s h x ∙ c in
+      let c : planned s x .next ≡ changed s r = rw a in
+      let e : sent s x ≡ changed s r = sent-plan s h x ∙ c in
       record {
         unrefused = no-refusals (plan s x) s (p .state);
         value = rw e (w .value);

@@ -26,6 +26,7 @@ use Rattle.ads1299_fields.specs.Values.{legal, settable}
 use Rattle.ads1299_settings.specs.Registers.{withField, fieldByte}
 use Rattle.ads1299_fields.proofs.Apart.{place-inside}
 use Rattle.ads1299_settings.proofs.Registers.{legal-settable, written}
+use Rattle.request.specs.declared.Request.{Request}
 use Rattle.planner.specs.Submission.{Submission}
 use Rattle.planner.specs.Plan.{planLength}
 use Rattle.planner.specs.Refusals.{fieldOwner, refusals, judged}
@@ -95,7 +96,7 @@ module _ (s : Converter) (x : Submission) (h : Formed s) (p : Passed s x) where
       (getD-set-other (s .registers) (place field channel .register) ID (fieldByte (s .registers) field channel (x .request .value)) 0
       (omega (arith, place-inside field channel (p .name) .after-id)))
 
-  changed-formed : Formed (changed s x)
+  changed-formed : Formed (changed s (x .request))
   unfolding changed
   changed-formed =
       let w = written (s .registers) field channel (x .request .value) (h .registers .size) (p .set) in
@@ -106,7 +107,7 @@ module _ (s : Converter) (x : Submission) (h : Formed s) (p : Passed s x) where
         shifting = h .shifting;
       }
 
-  pub changed-valid : valid (changed s x) ≡ true
+  pub changed-valid : valid (changed s (x .request)) ≡ true
   unfolding changed
   changed-valid =
       let v = parts s (p .state) in
@@ -117,13 +118,13 @@ unfolding planned
 next-formed s x h = split (accepted (refusalOf s x)) (λ e. rw (e, next) (changed-formed s x h (passed s x e))) (λ e. rw (e, next) h)
 
 -- the tests read of a state its validity, owners, phase and modes alone
-same-judged : (s : Converter) (y : Submission) → valid (changed s y) ≡ valid s → judged (changed s y) ≡ judged s
+same-judged : (s : Converter) (r : Request) → valid (changed s r) ≡ valid s → judged (changed s r) ≡ judged s
 unfolding judged changed
-same-judged s y e = fun-ext (λ values. fun-ext (λ x. rw e))
+same-judged s r e = fun-ext (λ values. fun-ext (λ x. rw e))
 
 pub judged-next : (s : Converter) (x : Submission) → Formed s → judged (next s x) ≡ judged s
 unfolding planned
 judged-next s x h =
     split (accepted (refusalOf s x))
-    (λ e. let p = passed s x e in rw (e, next) (same-judged s x (changed-valid s x h p ∙ sym (p .state))))
+    (λ e. let p = passed s x e in rw (e, next) (same-judged s (x .request) (changed-valid s x h p ∙ sym (p .state))))
     (λ e. rw (e, next))

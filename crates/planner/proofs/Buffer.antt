@@ -13,12 +13,10 @@ use Rattle.splice.proofs.Splice.{part-spliced}
 use Rattle.refusal.specs.Numbers.{none}
 use Rattle.refusal.specs.First.{accepted}
 use Rattle.ads1299_registers.specs.Addresses.{registerCount}
-use Rattle.ads1299_serial.specs.declared.Output.the-variants.{Empty}
 use Rattle.ads1299.specs.declared.Converter.{Converter}
-use Rattle.ads1299.specs.State.{withRegisters, withOutput}
 use Rattle.ads1299_fields.specs.declared.Place.{Place}
 use Rattle.ads1299_fields.specs.Places.{place}
-use Rattle.ads1299_settings.specs.Registers.{withField, fieldByte}
+use Rattle.ads1299_settings.specs.Registers.{fieldByte}
 use Rattle.ads1299_fields.proofs.Apart.{place-inside}
 use Rattle.planner.specs.declared.Planned.{Planned}
 use Rattle.planner.specs.Submission.{Submission, roomAt}
@@ -61,9 +59,9 @@ module _ (s : Converter) (x : Submission) (tx : List ℕ) (at : ℕ) where
 
       pub planned-in : (n : ℕ) (t : Converter) (part : List ℕ) → n ≡ length (around (s .standby) (s .continuous) (writing (k .register) byte))
           → part ≡ spliced (take (length tx - at) (drop at tx)) 0 (around (s .standby) (s .continuous) (writing (k .register) byte))
-          → t ≡ withOutput (withRegisters s (withField (s .registers) (x .request .field) (x .request .channel) (x .request .value))) Empty
+          → t ≡ changed s (x .request)
           → (_≡_ {A = Planned} (record { refusal = none; length = n; next = t }) (planned s x)) × (putMid at (length tx - at) tx part ≡ txAfter s x tx at)
-      unfolding planned txAfter changed
+      unfolding planned txAfter
       planned-in n t part en ep et =
           let f : accepted (refusalOf s x) ≡ true = eq-eqb _ _ z in
           let e = en ∙ bytes-length in (

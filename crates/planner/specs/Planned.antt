@@ -4,6 +4,7 @@ use mathlib.Core.Bool.{cond}
 use mathlib.Core.List.{List, []}
 use Rattle.refusal.specs.Numbers.{none}
 use Rattle.refusal.specs.First.{accepted}
+use Rattle.request.specs.declared.Request.{Request}
 use Rattle.ads1299_serial.specs.declared.Output.the-variants.{Empty}
 use Rattle.ads1299.specs.declared.Converter.{Converter}
 use Rattle.ads1299.specs.State.{withRegisters, withOutput}
@@ -18,9 +19,8 @@ unfoldable pub refusalOf : Converter → Submission → ℕ
 refusalOf s x = judged s (fieldOf (s .registers)) x
 
 -- gives the state with the named field set and nothing pending, all else as it is
-unfoldable pub changed : Converter → Submission → Converter
-changed s x =
-    withOutput (withRegisters s (withField (s .registers) (x .request .field) (x .request .channel) (x .request .value))) Empty
+unfoldable pub changed : Converter → Request → Converter
+changed s r = withOutput (withRegisters s (withField (s .registers) (r .field) (r .channel) (r .value))) Empty
 
 -- gives the request's plan, or no bytes where it is refused
 unfoldable pub plan : Converter → Submission → List ℕ
@@ -30,5 +30,5 @@ plan s x = cond (accepted (refusalOf s x)) (planOf s (x .request)) []
 unfoldable pub planned : Converter → Submission → Planned
 planned s x =
     cond (accepted (refusalOf s x))
-    (record { refusal = none; length = planLength s; next = changed s x })
+    (record { refusal = none; length = planLength s; next = changed s (x .request) })
     (record { refusal = refusalOf s x; length = 0; next = s })

@@ -4,13 +4,11 @@ ghost use Prim.Native.Nat.{_<_, _≤_};
 ghost use lib.Dec.{eqb};
 ghost use lib.ListN.{length};
 ghost use Rattle.ads1299_registers.specs.Addresses.{registerCount};
-ghost use Rattle.ads1299.specs.State.{withRegisters, withOutput};
 ghost use Rattle.ads1299.specs.Formed.{Formed};
-ghost use Rattle.ads1299_settings.specs.Registers.{withField};
 ghost use Rattle.planner.specs.Submission.{roomAt, submission};
 ghost use Rattle.planner.specs.Refusals.{fieldOwner};
 ghost use Rattle.planner.specs.Plan.{around, writing, planLength};
-ghost use Rattle.planner.specs.Planned.{refusalOf, planned};
+ghost use Rattle.planner.specs.Planned.{refusalOf, changed, planned};
 ghost use Rattle.planner.specs.Buffer.{txAfter};
 ghost use Rattle.splice.specs.Splice.{spliced};
 use ads1299::Converter;
@@ -127,7 +125,7 @@ fn write_plan(part: &mut [u8], standby: bool, continuous: bool, address: u8, byt
 
 // The state after the plan, without a byte sent: the field set, and what was pending lost.
 fn change(c: Converter, request: Request) -> Converter
-    ensures { λ r. ⌜ r ≡ withOutput (withRegisters c (withField (c .registers) (request .field) (request .channel) (request .value))) Output.Empty ⌝ }
+    ensures { λ r. ⌜ r ≡ changed c request ⌝ }
 {
     let before = c.registers;
     let registers = ads1299_settings::write(before, request.field, request.channel, request.value);
