@@ -5,8 +5,8 @@ use lib.ListN.{getD}
 use Rattle.ads1299_registers.specs.Addresses.{CONFIG1, CONFIG2, CONFIG3, LOFF, CH1SET, BIAS_SENSP, BIAS_SENSN, LOFF_SENSP, LOFF_SENSN, LOFF_FLIP, MISC1, CONFIG4}
 use Rattle.ads1299_fields.specs.declared.Entry.{Entry}
 
--- A field: its register and lowest bit, of channel 1 if it is a channel's; how far each moves from one channel to the next; its
--- width; and the one value of that width that is refused.
+-- a field: its register and lowest bit, of channel 1 if it is a channel's; how far each moves from one channel to the next; its
+-- width; and the one value of that width that is refused
 pub record Row : Type 0 where
   pub register : ℕ
   pub registerStep : ℕ

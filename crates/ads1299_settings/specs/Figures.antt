@@ -6,7 +6,7 @@ use Rattle.cases.specs.Figures.{Hold}
 use Rattle.ads1299_registers.specs.Addresses.{registerCount}
 use Rattle.ads1299_settings.specs.Registers.{fieldOf, fieldByte}
 
--- A field, a channel and a value; the register before and after.
+-- a field, a channel and a value; the register before and after
 pub record Figure : Type 0 where
   pub field : ℕ
   pub channel : ℕ

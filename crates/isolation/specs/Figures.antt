@@ -16,7 +16,7 @@ use Rattle.ads1299.specs.PowerUp.{poweredUp}
 use Rattle.planner.specs.Submission.{Submission}
 use Rattle.isolation.specs.Lists.{numbers, plans, end}
 
--- A list of requests from a state, with the numbers, the plans, BIAS_SENSP and the output at the end.
+-- a list of requests from a state, with the numbers, the plans, BIAS_SENSP and the output at the end
 pub record Figure : Type 0 where
   pub first : Converter
   pub requests : List Submission

@@ -26,7 +26,7 @@ answersTo party [] answers = []
 answersTo party (x ∷ l) [] = []
 answersTo party (x ∷ l) (answer ∷ answers) = cond (eqb (x .party) party) (answer ∷ answersTo party l answers) (answersTo party l answers)
 
--- A list for each party number: the administrator's, the tenants', and those of numbers that no party has.
+-- a list for each party number: the administrator's, the tenants', and those of numbers that no party has
 abbrev pub Lists : Type 0
 Lists = ℕ → List Submission
 

@@ -4,7 +4,7 @@ use mathlib.Core.List.{List}
 use lib.ListN.{length}
 use Rattle.request.specs.declared.Request.{Request}
 
--- A request with the party that sent it, known from the login and never part of the request, and the room for its plan.
+-- a request with the party that sent it, known from the login and never part of the request, and the room for its plan
 pub record Submission : Type 0 where
   pub party : ℕ
   pub request : Request

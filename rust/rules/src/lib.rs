@@ -216,6 +216,39 @@ pub fn is_claim(name: &str) -> bool {
     })
 }
 
+/// Every claim of a crate's specs/, as its crate and its name: a closed type whose comment is a sentence. What a value of a table or
+/// a list is made of is a closed type too, and its comment starts in lower case.
+pub fn claims() -> Vec<(String, String)> {
+    let mut found = Vec::new();
+    for krate in libraries() {
+        for path in files(&root().join("crates").join(&krate).join("specs"), ".antt") {
+            let text = read(&path);
+            let lines: Vec<_> = text.lines().collect();
+            for (at, line) in lines.iter().enumerate() {
+                let closed = line
+                    .strip_prefix("abbrev pub ")
+                    .and_then(|rest| rest.strip_suffix(" : Type 0"))
+                    .or_else(|| {
+                        line.strip_prefix("pub record ")
+                            .and_then(|rest| rest.strip_suffix(" : Type 0 where"))
+                    });
+                let Some(name) = closed.filter(|name| !name.contains(' ')) else {
+                    continue;
+                };
+                let first = lines[..at]
+                    .iter()
+                    .rev()
+                    .take_while(|line| line.starts_with("-- "))
+                    .last();
+                if first.is_some_and(|line| line[3..].starts_with(char::is_uppercase)) {
+                    found.push((krate.clone(), name.to_owned()));
+                }
+            }
+        }
+    }
+    found
+}
+
 /// Whether a wrong build changes a definition and not the code.
 pub fn changes_definition(krate: &str, label: &str) -> bool {
     let path = root()

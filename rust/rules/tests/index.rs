@@ -1,8 +1,8 @@
 //! docs/RULES.md names only what is there, and leaves out no wrong build, no public function and no file of definitions.
 
 use rules::{
-    changes_definition, definition_files, exists, is_claim, names, public_functions, theorems,
-    wrong_builds,
+    changes_definition, claims, definition_files, exists, is_claim, names, public_functions,
+    theorems, wrong_builds,
 };
 
 #[test]
@@ -79,6 +79,22 @@ fn every_theorem_of_a_claim_is_named() {
         .filter(|(theorem, claim)| is_claim(claim) && !names.contains(theorem))
         .collect();
     assert!(lost.is_empty(), "docs/RULES.md has no row with {lost:#?}");
+}
+
+#[test]
+fn every_claim_has_its_theorem() {
+    let proved = theorems();
+    assert!(claims().len() > 40);
+    let unproved: Vec<_> = claims()
+        .into_iter()
+        .filter(|(krate, claim)| {
+            let prefix = format!("{krate}.proofs.");
+            !proved
+                .iter()
+                .any(|(theorem, proves)| theorem.starts_with(&prefix) && proves == claim)
+        })
+        .collect();
+    assert!(unproved.is_empty(), "no theorem has the type {unproved:#?}");
 }
 
 #[test]
