@@ -8,7 +8,7 @@
  * exactly as they were given. Where a call has several refusals, they are tried in the order named.
  *
  * A pointer points to as many elements as the length after it says, and is never NULL, even where the length is 0.
- * Party, field, channel and value may be any number; they are judged whole.
+ * Party, field, channel and values may be any number; they are judged whole.
  */
 #ifndef RIMEVELVET_H
 #define RIMEVELVET_H
@@ -29,10 +29,10 @@ enum {
     RIMEVELVET_TRUNCATED = 1,      /* a request ends inside or before a number */
     RIMEVELVET_MALFORMED = 2,      /* a second group is 0 or has its top bit set */
     RIMEVELVET_UNKNOWN_PARTY = 3,  /* a party above 8 */
-    RIMEVELVET_UNKNOWN_FIELD = 4,  /* field 0 or above 26 */
+    RIMEVELVET_UNKNOWN_FIELD = 4,  /* field 0, or above 26 and not 30 */
     RIMEVELVET_WRONG_CHANNEL = 5,  /* not 1 to 8; with a shared field, not 0 */
     RIMEVELVET_NOT_OWNER = 6,      /* the party is not the owner; for a shared field or a grant, not party 0 */
-    RIMEVELVET_BAD_VALUE = 7,      /* too wide for the field, or refused there; above 16,383 in a request that is written */
+    RIMEVELVET_BAD_VALUE = 7,      /* a value too wide for its field, or refused there; above 16,383 in a request that is written */
     RIMEVELVET_NOT_WAITING = 8,    /* the converter is half through a command */
     RIMEVELVET_NO_ROOM = 9,        /* fewer bytes than the plan or the request needs */
     RIMEVELVET_NOT_CONVERTING = 10, /* a sample while stopped or in standby */
@@ -101,12 +101,32 @@ typedef struct {
     size_t length;
 } rimevelvet_part;
 
+/* The field that stands for a channel's fields 1 to 9 at once. */
+#define RIMEVELVET_WHOLE_CHANNEL 30
+
+/* How many values a request has room for. */
+#define RIMEVELVET_VALUES 9
+
+/* The bytes of the longest request: field 30 in one byte, and two for each other number. */
+#define RIMEVELVET_LONGEST_REQUEST 21
+
+/* The bytes of the longest plan: a whole channel's, in standby and continuous mode. */
+#define RIMEVELVET_LONGEST_PLAN 14
+
+/*
+ * A setting request. With field RIMEVELVET_WHOLE_CHANNEL the values are those of the channel's fields 1 to 9, in that order; they
+ * are all set, or the request is refused. With every other field the first value counts, and no other is looked at.
+ */
+typedef struct {
+    uint32_t field;
+    uint32_t channel; /* 1 to 8; 0 with a shared field */
+    uint32_t values[RIMEVELVET_VALUES];
+} rimevelvet_request;
+
 /* A request that was read, and how many bytes it took. */
 typedef struct {
     uint8_t refusal;
-    uint32_t field;
-    uint32_t channel;
-    uint32_t value;
+    rimevelvet_request request; /* values that were not read are 0 */
     size_t used;
 } rimevelvet_parsed;
 
@@ -133,7 +153,10 @@ RIMEVELVET_ASSERT(sizeof(rimevelvet_stepped) == 97, "two bytes and a state");
 RIMEVELVET_ASSERT(sizeof(rimevelvet_moved) == 96, "a byte and a state");
 RIMEVELVET_ASSERT(sizeof(rimevelvet_reading) == 8, "three bytes and a code");
 RIMEVELVET_ASSERT(sizeof(rimevelvet_part) == 24, "a byte and two sizes");
-RIMEVELVET_ASSERT(sizeof(rimevelvet_parsed) == 24, "a byte, three numbers and a size");
+RIMEVELVET_ASSERT(sizeof(rimevelvet_request) == 44, "eleven numbers");
+RIMEVELVET_ASSERT(offsetof(rimevelvet_request, values) == 8, "values after field and channel");
+RIMEVELVET_ASSERT(sizeof(rimevelvet_parsed) == 56, "a byte, a request and a size");
+RIMEVELVET_ASSERT(offsetof(rimevelvet_parsed, request) == 4, "a request after the refusal");
 RIMEVELVET_ASSERT(sizeof(rimevelvet_written) == 16, "a byte and a size");
 RIMEVELVET_ASSERT(sizeof(rimevelvet_planned) == 112, "a byte, a size and a state");
 
@@ -182,26 +205,29 @@ rimevelvet_part rimevelvet_channel_bytes(rimevelvet_converter state, uint32_t pa
                                          size_t frame_length);
 
 /*
- * Reads the request that the bytes start with. Bytes after it are not looked at.
+ * Reads the request that the bytes start with: field, channel and one value, or nine values exactly where the field is
+ * RIMEVELVET_WHOLE_CHANNEL, whatever the channel. Bytes after it are not looked at.
  * Refusals: 1, 2, whichever fault comes first; then all numbers are 0.
  */
 rimevelvet_parsed rimevelvet_request_read(const uint8_t *bytes, size_t bytes_length);
 
 /*
- * Writes a request to the buffer's start. Bytes after it stay.
- * Refusals: 7 (a number above 16,383), 9; then used is 0 and the buffer is as it was.
+ * Writes a request to the buffer's start: nine values exactly where its field is RIMEVELVET_WHOLE_CHANNEL, else the first alone.
+ * Bytes after it stay.
+ * Refusals: 7 (a number to be written is above 16,383), 9; then used is 0 and the buffer is as it was.
  */
-rimevelvet_written rimevelvet_request_write(uint32_t field, uint32_t channel, uint32_t value, uint8_t *buffer, size_t buffer_length);
+rimevelvet_written rimevelvet_request_write(rimevelvet_request request, uint8_t *buffer, size_t buffer_length);
 
 /*
  * Plans a party's request: the bytes for the converter go into the transmit buffer from place `at` on, and all else there stays.
- * Refusals: 13, 3, 4, 5, 6, 7, 8, 9; then length is 0, and the state and the buffer are as they were.
+ * A plan has 3 bytes, with RIMEVELVET_WHOLE_CHANNEL 10; in standby two more, and in continuous mode two more.
+ * Refusals: 13, 3, 4, 5, 6, 7 (any value that counts), 8, 9; then length is 0, and the state and the buffer are as they were.
  */
-rimevelvet_planned rimevelvet_plan(rimevelvet_converter state, uint32_t party, uint32_t field, uint32_t channel, uint32_t value,
-                                   uint8_t *tx, size_t tx_length, size_t at);
+rimevelvet_planned rimevelvet_plan(rimevelvet_converter state, uint32_t party, rimevelvet_request request, uint8_t *tx,
+                                   size_t tx_length, size_t at);
 
 /* The room that a transcript needs, however long the input is. */
-#define RIMEVELVET_LONGEST_TRANSCRIPT 31395
+#define RIMEVELVET_LONGEST_TRANSCRIPT 60060
 
 /*
  * Writes what the program prints for an input to the start of `out`, which has RIMEVELVET_LONGEST_TRANSCRIPT bytes, and gives its

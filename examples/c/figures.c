@@ -1,5 +1,5 @@
 /*
- * The figures of document 01, by way of C. From the repository's root:
+ * The figures of document 01, and those of requests for a whole channel, by way of C. From the repository's root:
  *
  *     rt staticlib capi
  *     gcc -std=c11 -Wall -Wextra -Iinclude examples/c/figures.c target/staticlib/libcapi.a -o target/figures
@@ -29,11 +29,17 @@ static rimevelvet_converter send(rimevelvet_converter state, const uint8_t *byte
     return state;
 }
 
-static void print_plan(const char *name, rimevelvet_converter state, uint32_t party, uint32_t field, uint32_t channel, uint32_t value,
-                       size_t room)
+/* A request for one field; the values behind the first are not looked at. */
+static rimevelvet_request one(uint32_t field, uint32_t channel, uint32_t value)
 {
-    uint8_t tx[8] = {0};
-    rimevelvet_planned planned = rimevelvet_plan(state, party, field, channel, value, tx, room, 0);
+    return (rimevelvet_request){.field = field, .channel = channel, .values = {value}};
+}
+
+/* Plans a request into a buffer of which `room` bytes are lent. */
+static void print_plan(const char *name, rimevelvet_converter state, uint32_t party, rimevelvet_request request, size_t room)
+{
+    uint8_t tx[RIMEVELVET_LONGEST_PLAN] = {0};
+    rimevelvet_planned planned = rimevelvet_plan(state, party, request, tx, room, 0);
     if (planned.refusal == RIMEVELVET_NONE)
         print_bytes(name, tx, planned.length);
     else
@@ -45,18 +51,41 @@ static void plans(rimevelvet_converter fresh)
     rimevelvet_converter owned = rimevelvet_grant(fresh, 0, 1, 3).next;
     uint8_t out[1];
     rimevelvet_converter command = send(owned, (const uint8_t[]){0x11}, 1, out);
-    print_plan("gain 4 for channel 3, continuous", owned, 1, 2, 3, 4, 8);
-    print_plan("the same in command mode", command, 1, 2, 3, 4, 8);
-    print_plan("in standby and command mode", send(command, (const uint8_t[]){0x04}, 1, out), 1, 2, 3, 4, 8);
+    const rimevelvet_request gain = one(2, 3, 4);
+    print_plan("gain 4 for channel 3, continuous", owned, 1, gain, 8);
+    print_plan("the same in command mode", command, 1, gain, 8);
+    print_plan("in standby and command mode", send(command, (const uint8_t[]){0x04}, 1, out), 1, gain, 8);
     rimevelvet_converter standby = send(owned, (const uint8_t[]){0x04}, 1, out);
-    print_plan("in standby and continuous", standby, 1, 2, 3, 4, 8);
-    print_plan("the same with room for 6", standby, 1, 2, 3, 4, 6);
+    print_plan("in standby and continuous", standby, 1, gain, 8);
+    print_plan("the same with room for 6", standby, 1, gain, 6);
     command.registers[0x0D] = 0x12;
-    print_plan("field 5 for channel 3, BIAS_SENSP 12", command, 1, 5, 3, 1, 8);
-    print_plan("party 2 on party 1's channel", command, 2, 2, 3, 4, 8);
-    print_plan("party 9", command, 9, 2, 3, 4, 8);
-    print_plan("data rate 6", command, 0, 12, 0, 6, 8);
-    print_plan("data rate 7", command, 0, 12, 0, 7, 8);
+    print_plan("field 5 for channel 3, BIAS_SENSP 12", command, 1, one(5, 3, 1), 8);
+    print_plan("party 2 on party 1's channel", command, 2, gain, 8);
+    print_plan("party 9", command, 9, gain, 8);
+    print_plan("data rate 6", command, 0, one(12, 0, 6), 8);
+    print_plan("data rate 7", command, 0, one(12, 0, 7), 8);
+}
+
+static void whole_channels(rimevelvet_converter fresh)
+{
+    rimevelvet_request request = {.field = RIMEVELVET_WHOLE_CHANNEL, .channel = 3, .values = {1, 4, 1, 5, 1, 0, 1, 0, 1}};
+    rimevelvet_converter state = rimevelvet_grant(fresh, 0, 1, 3).next;
+    uint8_t out[1];
+    /* Neighbours' bits, which stay. */
+    memcpy(state.registers + 0x0D, (const uint8_t[]){0x12, 0xFF, 0x00, 0x04, 0x80}, 5);
+    rimevelvet_converter command = send(state, (const uint8_t[]){0x11}, 1, out);
+    rimevelvet_converter standby = send(state, (const uint8_t[]){0x04}, 1, out);
+    print_plan("channel 3 whole, command mode", command, 1, request, 10);
+    print_plan("the same with room for 9", command, 1, request, 9);
+    print_plan("in standby and command mode", send(command, (const uint8_t[]){0x04}, 1, out), 1, request, 12);
+    print_plan("continuous", state, 1, request, 12);
+    print_plan("in standby and continuous", standby, 1, request, 14);
+    print_plan("the same with room for 13", standby, 1, request, 13);
+    request.values[8] = 2;
+    print_plan("a bad ninth value", command, 1, request, 14);
+    print_plan("the same from a stranger", command, 2, request, 14);
+    request.channel = 9;
+    print_plan("channel 9 whole", command, 1, request, 14);
 }
 
 static void bytes_sent(rimevelvet_converter fresh)
@@ -90,15 +119,35 @@ static void readings(rimevelvet_converter fresh)
     printf("a frame of 26 bytes: refused %u\n", (unsigned)rimevelvet_channel_bytes(state, 0, 1, state.latest, 26).refusal);
 }
 
+static void print_read(const char *name, const uint8_t *bytes, size_t length)
+{
+    rimevelvet_parsed parsed = rimevelvet_request_read(bytes, length);
+    if (parsed.refusal != RIMEVELVET_NONE) {
+        printf("%s: refused %u\n", name, (unsigned)parsed.refusal);
+        return;
+    }
+    printf("%s: %u %u,", name, (unsigned)parsed.request.field, (unsigned)parsed.request.channel);
+    for (size_t i = 0; i < RIMEVELVET_VALUES; i++)
+        printf(" %u", (unsigned)parsed.request.values[i]);
+    printf(", %zu bytes\n", parsed.used);
+}
+
 static void requests(void)
 {
-    uint8_t buffer[6] = {0};
-    rimevelvet_written written = rimevelvet_request_write(2, 3, 300, buffer, sizeof buffer);
+    uint8_t buffer[RIMEVELVET_LONGEST_REQUEST] = {0};
+    rimevelvet_written written = rimevelvet_request_write(one(2, 3, 300), buffer, sizeof buffer);
     print_bytes("request 2 3 300", buffer, written.used);
-    rimevelvet_parsed parsed = rimevelvet_request_read(buffer, sizeof buffer);
-    printf("read back: %u %u %u, %zu bytes\n", (unsigned)parsed.field, (unsigned)parsed.channel, (unsigned)parsed.value, parsed.used);
-    printf("16,384 written: refused %u\n", (unsigned)rimevelvet_request_write(2, 3, 16384, buffer, sizeof buffer).refusal);
-    printf("83 00 read: refused %u\n", (unsigned)rimevelvet_request_read((const uint8_t[]){0x83, 0x00}, 2).refusal);
+    print_read("read back", buffer, sizeof buffer);
+    printf("16,384 written: refused %u\n", (unsigned)rimevelvet_request_write(one(2, 3, 16384), buffer, sizeof buffer).refusal);
+    print_read("83 00", (const uint8_t[]){0x83, 0x00}, 2);
+    rimevelvet_request whole = {.field = RIMEVELVET_WHOLE_CHANNEL, .channel = 9, .values = {1, 4, 1, 5, 1, 0, 1, 0, 300}};
+    written = rimevelvet_request_write(whole, buffer, sizeof buffer);
+    print_bytes("request 30 9 and nine values", buffer, written.used);
+    print_read("read back", buffer, written.used);
+    print_read("without its last byte", buffer, written.used - 1);
+    printf("room for 11: refused %u\n", (unsigned)rimevelvet_request_write(whole, buffer, 11).refusal);
+    whole.values[8] = 16384;
+    printf("16,384 as ninth value: refused %u\n", (unsigned)rimevelvet_request_write(whole, buffer, sizeof buffer).refusal);
 }
 
 static void bad_states(rimevelvet_converter fresh)
@@ -115,6 +164,7 @@ int main(void)
 {
     rimevelvet_converter fresh = rimevelvet_power_up(0x3E).converter;
     plans(fresh);
+    whole_channels(fresh);
     bytes_sent(fresh);
     readings(fresh);
     requests();

@@ -1,5 +1,5 @@
 -- Which field and channel together name something.
-use mathlib.Core.Bool.{Bool, true, cond, _&&_}
+use mathlib.Core.Bool.{Bool, true, cond, _&&_, _||_}
 use Prim.Native.Nat.{ℕ, zero, suc, _+_}
 use lib.Dec.{leb, eqb}
 use Rattle.cases.specs.Below.{below}
@@ -14,13 +14,21 @@ fieldCount = 26
 abbrev pub channelFieldCount : ℕ
 channelFieldCount = 9
 
+-- a channel field that stands for the nine together (document 02, No. 1): it has a place in no register
+abbrev pub wholeChannel : ℕ
+wholeChannel = 30
+
 -- the number is a field's
 abbrev pub isField : ℕ → Bool
 isField f = leb 1 f && leb f fieldCount
 
--- the field is a channel's
+-- a request can ask for the field: one field, or a whole channel
+abbrev pub knownField : ℕ → Bool
+knownField f = isField f || eqb f wholeChannel
+
+-- the field is a channel's: all of them, or one of the nine
 abbrev pub channelField : ℕ → Bool
-channelField f = leb 1 f && leb f channelFieldCount
+channelField f = eqb f wholeChannel || (leb 1 f && leb f channelFieldCount)
 
 -- the field is to be named with this channel: a channel's field with its channel, a shared one with 0
 abbrev pub takesChannel : ℕ → ℕ → Bool

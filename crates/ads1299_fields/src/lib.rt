@@ -5,7 +5,7 @@ mod map;
 use map::look_up;
 ghost use mathlib.Core.Path.{_≡_};
 ghost use Prim.Native.Nat.{_-_};
-ghost use Rattle.ads1299_fields.specs.Names.{isField, channelField, takesChannel, named};
+ghost use Rattle.ads1299_fields.specs.Names.{isField, knownField, channelField, takesChannel, named};
 ghost use Rattle.ads1299_fields.specs.Places.{place};
 ghost use Rattle.ads1299_fields.specs.Values.{fits, legal, settable};
 
@@ -13,7 +13,10 @@ ghost use Rattle.ads1299_fields.specs.Values.{fits, legal, settable};
 const FIELDS: u32 = 26;
 
 // Fields 1 to 9 are a channel's, the others are shared.
-const CHANNEL_FIELDS: u32 = 9;
+pub const CHANNEL_FIELDS: u32 = 9;
+
+// A channel's nine fields together, which have a place in no register as one.
+pub const WHOLE_CHANNEL: u32 = 30;
 
 // A row of the map: where a field lies, and which value of it is refused.
 struct Entry(
@@ -39,10 +42,24 @@ pub fn is_field(field: u32) -> bool
     if 1 <= field { field <= FIELDS } else { false }
 }
 
-// Whether the number is a channel field's.
+// Whether a request can ask for the field: for one, or for a whole channel.
+pub fn is_known_field(field: u32) -> bool
+    ensures { λ r. ⌜ r ≡ knownField field ⌝ }
+{
+    if is_field(field) {
+        true
+    } else {
+        field == WHOLE_CHANNEL
+    }
+}
+
+// Whether the number is a channel field's, or that of all of them.
 pub fn is_channel_field(field: u32) -> bool
     ensures { λ r. ⌜ r ≡ channelField field ⌝ }
 {
+    if field == WHOLE_CHANNEL {
+        return true;
+    }
     if 1 <= field {
         field <= CHANNEL_FIELDS
     } else {

@@ -1,3 +1,4 @@
 pub mod Registers
 pub mod Masks
+pub mod Settings
 pub mod Figures

@@ -13,6 +13,7 @@ use Rattle.ads1299_fields.specs.Places.{place, apart}
 use Rattle.ads1299_fields.specs.Values.{settable}
 use Rattle.ads1299_fields.specs.Layout.{same}
 use Rattle.ads1299_settings.specs.Registers.{readAt, fieldOf, withField, fieldByte}
+use Rattle.ads1299_settings.specs.Settings.{Setting, withSettings, withValues, allSettable, allApart}
 
 -- every register holds a byte
 abbrev pub Bytes : List ℕ → Type 0
@@ -42,8 +43,16 @@ pub record Untouched (l : List ℕ) (f n v : ℕ) : Type 0 where
 abbrev pub UnnamedUntouched : Type 0
 UnnamedUntouched = (l : List ℕ) (f n v : ℕ) → named f n ≡ false → Untouched l f n v
 
--- The byte that sets a field passes its register's mask whole.
-abbrev pub PassesMasks : Type 0
-PassesMasks =
-    (l : List ℕ) (f n v : ℕ) → Bytes l → settable f n v ≡ true
-    → masked (getD l (place f n .register) 0) (getD masks (place f n .register) 0) (fieldByte l f n v) ≡ fieldByte l f n v
+-- each field reads as the settings leave it; every place with no bit of theirs, in whatever register, reads as before; the registers are
+-- as many, and bytes still; and every register passes its mask whole, written over what it was
+pub record AllWritten (l : List ℕ) (n : ℕ) (given : List Setting) : Type 0 where
+  pub fields : (f m : ℕ) → named f m ≡ true → fieldOf (withSettings l n given) f m ≡ withValues (fieldOf l) n given f m
+  pub others : (j : Place) → allApart n given j ≡ true → readAt (withSettings l n given) j ≡ readAt l j
+  pub size : length (withSettings l n given) ≡ length l
+  pub bytes : Bytes l → Bytes (withSettings l n given)
+  pub passes : Bytes l → (r : ℕ)
+      → masked (getD l r 0) (getD masks r 0) (getD (withSettings l n given) r 0) ≡ getD (withSettings l n given) r 0
+
+-- Settings that can be made are written so in any 24 registers, and nothing else changes.
+abbrev pub SettingsWritten : Type 0
+SettingsWritten = (l : List ℕ) (n : ℕ) (given : List Setting) → length l ≡ registerCount → allSettable n given ≡ true → AllWritten l n given

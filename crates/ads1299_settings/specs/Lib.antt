@@ -1,3 +1,4 @@
 pub mod Registers
+pub mod Settings
 pub mod Claims
 pub mod Figures

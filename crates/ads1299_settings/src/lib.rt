@@ -3,12 +3,7 @@ ghost use mathlib.Core.Path.{_≡_};
 ghost use Rattle.ads1299_settings.specs.Registers.{withField, fieldByte};
 
 // The field's register as it stands with the value in the field; 0 where nothing is named or the value does not fit.
-pub fn new_byte(
-    registers: [u8; ads1299_registers::COUNT],
-    field: u32,
-    channel: u32,
-    value: u32,
-) -> u8
+fn new_byte(registers: [u8; ads1299_registers::COUNT], field: u32, channel: u32, value: u32) -> u8
     ensures { λ r. ⌜ r ≡ fieldByte registers field channel value ⌝ }
 {
     if ads1299_fields::is_settable(field, channel, value) {

@@ -88,3 +88,20 @@ passes-mask b p w v mask hb hm hv le covers =
     let at : p + (i - p) ≡ i = omega arith in
     let one : field mask i 1 ≡ 1 = rw at at (sym (bit-of-field mask p w (i - p) (omega arith))) ∙ rw covers (all-ones w (i - p) (omega arith)) in
     absurd (eqb-false (field mask i 1) 1 e one))))))
+
+-- a byte passes any mask over itself
+pub passes-same : (mask b : ℕ) → mask < 256 → b < 256 → masked b mask b ≡ b
+passes-same mask b hm hb =
+    same-bits 8 (masked b mask b) b (masked-lt b mask b hm) hb (λ i lt. selects b mask b hm i lt ∙ split (bit mask i) (λ e. rw e) (λ e. rw e))
+
+-- what passes over a byte, and that over another, passes over the other
+pub passes-both : (mask a b c : ℕ) → mask < 256 → c < 256 → masked a mask b ≡ b → masked b mask c ≡ c → masked a mask c ≡ c
+passes-both mask a b c hm hc first second =
+    same-bits 8 (masked a mask c) c (masked-lt a mask c hm) hc
+    (λ i lt. selects a mask c hm i lt
+    ∙ split (bit mask i)
+    (λ e. rw e)
+    (λ e.
+    let one : field b i 1 ≡ field a i 1 = ap (λ (x : ℕ). field x i 1) (sym first) ∙ selects a mask b hm i lt ∙ rw e in
+    let two : field c i 1 ≡ field b i 1 = ap (λ (x : ℕ). field x i 1) (sym second) ∙ selects b mask c hm i lt ∙ rw e in
+    rw e (sym (two ∙ one))))

@@ -76,14 +76,7 @@ partFrom f a = cond (isState f) a (noPart invalidState)
 
 -- gives the answer of the request reader
 abbrev pub flatParsed : Parsed → FlatParsed
-flatParsed a =
-    record {
-      refusal = a .refusal;
-      field = a .request .field;
-      channel = a .request .channel;
-      value = a .request .value;
-      used = a .used;
-    }
+flatParsed a = record { refusal = a .refusal; request = a .request; used = a .used }
 
 -- gives the answer of the request writer
 abbrev pub flatWritten : Written → FlatWritten

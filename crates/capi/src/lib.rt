@@ -7,6 +7,7 @@ mod program;
 mod requests;
 
 use flat::FlatConverter;
+use request::Request;
 
 #[repr(C)]
 pub struct FlatPoweredUp {
@@ -47,9 +48,7 @@ pub struct FlatPart {
 #[repr(C)]
 pub struct FlatParsed {
     pub refusal: u8,
-    pub field: u32,
-    pub channel: u32,
-    pub value: u32,
+    pub request: Request,
     pub used: usize,
 }
 

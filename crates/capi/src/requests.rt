@@ -1,6 +1,5 @@
 // Setting requests: read, written and planned.
 ghost use mathlib.Core.Path.{_≡_};
-ghost use Rattle.request.specs.Requests.{request};
 ghost use Rattle.request.specs.Reading.{parsed};
 ghost use Rattle.request.specs.Writing.{written, bufferAfter};
 ghost use Rattle.planner.specs.Submission.{submission};
@@ -22,28 +21,16 @@ pub extern "C" fn rimevelvet_request_read(bytes: &[u8]) -> FlatParsed
     let request = parsed.request;
     FlatParsed {
         refusal: parsed.refusal,
-        field: request.field,
-        channel: request.channel,
-        value: request.value,
+        request,
         used: parsed.used,
     }
 }
 
 #[no_mangle]
-pub extern "C" fn rimevelvet_request_write(
-    field: u32,
-    channel: u32,
-    value: u32,
-    buffer: &mut [u8],
-) -> FlatWritten
-    ensures { λ r. ⌜ (r ≡ flatWritten (written (request field channel value) (now (buffer .entry))))
-        × (now (buffer .exit) ≡ bufferAfter (request field channel value) (now (buffer .entry))) ⌝ }
+pub extern "C" fn rimevelvet_request_write(request: Request, buffer: &mut [u8]) -> FlatWritten
+    ensures { λ r. ⌜ (r ≡ flatWritten (written request (now (buffer .entry))))
+        × (now (buffer .exit) ≡ bufferAfter request (now (buffer .entry))) ⌝ }
 {
-    let request = Request {
-        field,
-        channel,
-        value,
-    };
     let written = request::write(request, buffer);
     FlatWritten {
         refusal: written.refusal,
@@ -56,22 +43,15 @@ pub extern "C" fn rimevelvet_request_write(
 pub extern "C" fn rimevelvet_plan(
     state: FlatConverter,
     party: u32,
-    field: u32,
-    channel: u32,
-    value: u32,
+    request: Request,
     tx: &mut [u8],
     at: usize,
 ) -> FlatPlanned
-    ensures { λ r. ⌜ (r ≡ plannedFrom state (planned (stateOf state) (submission party (request field channel value) (now (tx .entry)) at)))
-        × (now (tx .exit) ≡ bufferFrom state (txAfter (stateOf state) (submission party (request field channel value) (now (tx .entry)) at) (now (tx .entry)) at) (now (tx .entry))) ⌝ }
+    ensures { λ r. ⌜ (r ≡ plannedFrom state (planned (stateOf state) (submission party request (now (tx .entry)) at)))
+        × (now (tx .exit) ≡ bufferFrom state (txAfter (stateOf state) (submission party request (now (tx .entry)) at) (now (tx .entry)) at) (now (tx .entry))) ⌝ }
 {
     if flat::is_state(state) {
         let before = flat::state_of(state);
-        let request = Request {
-            field,
-            channel,
-            value,
-        };
         let planned = live::plan_borrowed(before, party, request, tx, at);
         FlatPlanned {
             refusal: planned.refusal,

@@ -2,7 +2,9 @@
 use mathlib.Core.Path.{refl}
 use Rattle.bits.specs.Fields.{field, inserted}
 use Rattle.leb128.specs.Decoding.{decoded}
-use Rattle.request.specs.Reading.{readRefusal, parsed}
+use Rattle.leb128.specs.Series.{series}
+use Rattle.request.specs.Requests.{padded, requestOf}
+use Rattle.request.specs.Reading.{numbersIn, numbersRead, readRefusal, parsed}
 use Rattle.ads1299_registers.specs.Table.{powerUp}
 use Rattle.ads1299.specs.PowerUp.{validId, restored, poweredUp}
 use Rattle.ads1299.specs.Validity.{validConverter, valid}
@@ -13,8 +15,11 @@ use Rattle.ads1299_fields.specs.Names.{named}
 use Rattle.ads1299_fields.specs.Places.{place}
 use Rattle.ads1299_fields.specs.Values.{fits, legal, settable}
 use Rattle.ads1299_settings.specs.Registers.{readAt, writeAt, fieldOf, fieldByte, withField}
+use Rattle.ads1299_settings.specs.Settings.{withSettings}
+use Rattle.planner.specs.Settings.{settingsFrom, settings}
+use Rattle.planner.specs.Runs.{span, writingAll, runsLength}
 use Rattle.planner.specs.Refusals.{judged}
-use Rattle.planner.specs.Plan.{planOf}
+use Rattle.planner.specs.Plan.{planWriting, registersAfter, planOf}
 use Rattle.planner.specs.Planned.{refusalOf, changed, plan, planned}
 use Rattle.console.specs.Text.{decimal, hex, hexes}
 use Rattle.console.specs.Line.{line}
@@ -23,5 +28,5 @@ use Rattle.console.specs.Transcript.{lines, session, transcriptOf}
 use Rattle.console.specs.Figures.{figures, FiguresHold}
 
 pub figures-hold : FiguresHold
-unfolding figures field inserted decoded readRefusal parsed powerUp validId restored poweredUp validConverter valid knownParty ownerOf table rowOf named place fits legal settable readAt writeAt fieldOf fieldByte withField judged planOf refusalOf changed plan planned decimal hex hexes line fresh printed nextState consumed lines session transcriptOf
+unfolding figures field inserted decoded series padded requestOf numbersIn numbersRead readRefusal parsed powerUp validId restored poweredUp validConverter valid knownParty ownerOf table rowOf named place fits legal settable readAt writeAt fieldOf fieldByte withField withSettings settingsFrom settings span writingAll runsLength judged planWriting registersAfter planOf refusalOf changed plan planned decimal hex hexes line fresh printed nextState consumed lines session transcriptOf
 figures-hold = refl

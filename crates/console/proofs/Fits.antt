@@ -8,6 +8,7 @@ use lib.ListN.{length, drop, length-append, length-drop}
 use Rattle.cases.proofs.Cases.{split}
 use Rattle.refusal.specs.First.{accepted}
 use Rattle.refusal.specs.Numbers.{truncated, inputTooLong}
+use Rattle.request.specs.Requests.{fewestNumbers}
 use Rattle.request.specs.Reading.{parsed}
 use Rattle.ads1299.specs.declared.Converter.{Converter}
 use Rattle.planner.specs.Submission.{Submission}
@@ -19,24 +20,24 @@ use Rattle.console.specs.Turn.{fresh, isRead, submitted, answered, print
 use Rattle.console.specs.Transcript.{inputLimit, longestTranscript, lines, session, run, transcriptOf}
 use Rattle.console.specs.Claims.{AlwaysFits}
 use Rattle.console.proofs.Lines.{short-line, plan-line}
-use Rattle.console.proofs.Turns.{three-each, some-consumed, consumed-within}
+use Rattle.console.proofs.Turns.{fewest-each, some-consumed, consumed-within}
 
 answered-fits : (s : Converter) (x : Submission) → length (answered s x) ≤ longestLine
 unfolding planned plan
 answered-fits s x =
     split (accepted (refusalOf s x))
-    (λ a. rw a (omega (arith, plan-line (planOf s (x .request)), plan-length s (x .request), plans-fit s)))
+    (λ a. rw a (omega (arith, plan-line (planOf s (x .request)), plan-length s (x .request), plans-fit s (x .request))))
     (λ a. rw a (omega (arith, short-line (refusalOf s x))))
 
 -- a line is no longer than its share of the bytes
-printed-fits : (s : Converter) (party : ℕ) (bytes : List ℕ) → 0 < length bytes → 3 * length (printed s party bytes) ≤ longestLine * consumed bytes
+printed-fits : (s : Converter) (party : ℕ) (bytes : List ℕ) → 0 < length bytes → fewestNumbers * length (printed s party bytes) ≤ longestLine * consumed bytes
 unfolding printed
 printed-fits s party bytes h =
     split (isRead bytes)
-    (λ a. let u = three-each bytes h a in rw a (omega (arith, answered-fits s (submitted party bytes))))
+    (λ a. let u = fewest-each bytes h a in rw a (omega (arith, answered-fits s (submitted party bytes))))
     (λ a. let u = some-consumed bytes h in rw a (omega (arith, short-line (parsed bytes .refusal))))
 
-lines-fit : (most : ℕ) (s : Converter) (party : ℕ) (bytes : List ℕ) → 3 * length (lines most s party bytes) ≤ longestLine * length bytes
+lines-fit : (most : ℕ) (s : Converter) (party : ℕ) (bytes : List ℕ) → fewestNumbers * length (lines most s party bytes) ≤ longestLine * length bytes
 unfolding lines
 lines-fit zero s party bytes = omega arith
 lines-fit (suc most) s party bytes =

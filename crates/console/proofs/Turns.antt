@@ -11,7 +11,9 @@ use Rattle.cases.proofs.Cases.{split}
 use Rattle.refusal.specs.Numbers.{none}
 use Rattle.refusal.specs.First.{accepted}
 use Rattle.request.specs.declared.Parsed.{Parsed}
+use Rattle.request.specs.Requests.{fewestNumbers}
 use Rattle.request.specs.Reading.{parsed}
+use Rattle.request.proofs.Reading.{few-values}
 use Rattle.request.proofs.RoundTrip.{round-trip}
 use Rattle.ads1299.specs.declared.Converter.{Converter}
 use Rattle.planner.specs.declared.Planned.{Planned}
@@ -27,11 +29,11 @@ use Rattle.console.specs.Turn.{isRead, printed, nextState, consumed, tur
 -- what lies at the buffer's start is the plan
 shown : (s : Converter) (x : Submission) (tx : List ℕ) → take (planned s x .length) (txAfter s x tx 0) ≡ plan s x
 unfolding planned txAfter plan
-shown s x tx = split (accepted (refusalOf s x)) (λ a. rw a (take-at (planOf s (x .request)) _ (planLength s) (plan-length s (x .request)))) (λ a. rw a)
+shown s x tx = split (accepted (refusalOf s x)) (λ a. rw a (take-at (planOf s (x .request)) _ (planLength s (x .request)) (plan-length s (x .request)))) (λ a. rw a)
 
 short : (s : Converter) (x : Submission) → planned s x .length ≤ longestPlan
 unfolding planned
-short s x = split (accepted (refusalOf s x)) (λ a. rw a (plans-fit s)) (λ a. rw a (omega arith))
+short s x = split (accepted (refusalOf s x)) (λ a. rw a (plans-fit s (x .request))) (λ a. rw a (omega arith))
 
 module _ (s : Converter) (party : ℕ) (bytes : List ℕ) (p : Parsed) (e : p ≡ parsed bytes) where
   -- the bytes are not read
@@ -67,14 +69,14 @@ module _ (s : Converter) (party : ℕ) (bytes : List ℕ) (p : Parsed) (e : p �
     answered-turn at place h = rw (answered-line, was-read, ← e, h, et)
 
 module _ (bytes : List ℕ) (h : 0 < length bytes) where
-  -- a request has at least three bytes
-  pub three-each : isRead bytes ≡ true → 3 ≤ consumed bytes
+  -- a request has at least a byte for each of the fewest numbers
+  pub fewest-each : isRead bytes ≡ true → fewestNumbers ≤ consumed bytes
   unfolding consumed
-  three-each a = rw a (round-trip .counted bytes .least (eqb-true _ _ a))
+  fewest-each a = rw a (omega (arith, few-values (parsed bytes .request .field) .0, round-trip .counted bytes .least (eqb-true _ _ a)))
 
   pub some-consumed : 0 < consumed bytes
   unfolding consumed
-  some-consumed = split (isRead bytes) (λ a. let l = three-each a in omega arith) (λ a. rw a h)
+  some-consumed = split (isRead bytes) (λ a. let l = fewest-each a in omega arith) (λ a. rw a h)
 
   pub consumed-within : consumed bytes ≤ length bytes
   unfolding consumed

@@ -5,7 +5,7 @@ use mathlib.Core.List.{List, [], _∷_, _++_}
 use lib.Dec.{eqb, ltb}
 use lib.ListN.{length, drop}
 use Rattle.refusal.specs.Numbers.{truncated, inputTooLong}
-use Rattle.request.specs.Requests.{numbers}
+use Rattle.request.specs.Requests.{fewestNumbers}
 use Rattle.ads1299.specs.declared.Converter.{Converter}
 use Rattle.console.specs.Line.{longestLine, line}
 use Rattle.console.specs.Turn.{fresh, printed, nextState, consumed}
@@ -14,9 +14,9 @@ use Rattle.console.specs.Turn.{fresh, printed, nextState, consumed}
 abbrev pub inputLimit : ℕ
 inputLimit = 4096
 
--- the most bytes of a transcript: every request has at least one byte a number
+-- the most bytes of a transcript: the requests with the fewest numbers, a byte each
 abbrev pub longestTranscript : ℕ
-longestTranscript = (inputLimit - 1) / numbers * longestLine
+longestTranscript = (inputLimit - 1) / fewestNumbers * longestLine
 
 -- gives the lines of at most so many requests, each meeting the state that the one before left
 unfoldable pub lines : ℕ → Converter → ℕ → List ℕ → List ℕ

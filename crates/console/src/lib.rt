@@ -20,8 +20,8 @@ const OWNER: u8 = 1;
 // The refusal's digit, a blank and two digits for each byte of the longest plan, and a newline.
 const LONGEST_LINE: usize = 3 * planner::LONGEST + 2;
 
-// The shortest request has a byte for each number, and one byte of the input is the party.
-pub const LONGEST_TRANSCRIPT: usize = (INPUT_LIMIT - 1) / request::NUMBERS * LONGEST_LINE;
+// The shortest request has a byte for each of the fewest numbers, and one byte of the input is the party.
+pub const LONGEST_TRANSCRIPT: usize = (INPUT_LIMIT - 1) / request::FEWEST_NUMBERS * LONGEST_LINE;
 
 // What one request leaves: how many bytes are done with, the place after its line, and the state.
 struct Turn {

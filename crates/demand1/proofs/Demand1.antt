@@ -1,5 +1,5 @@
 -- Demand 1: every answer is chosen by its refusal number, so each entry is one lemma about such a choice.
-use Prim.Native.Nat.{ℕ, zero, suc, _+_, _≤_, _<_}
+use Prim.Native.Nat.{ℕ, zero, suc, _≤_, _<_}
 use mathlib.Core.Path.{_≡_, refl, sym, ap, _∙_}
 use native.Mathlib.Omega.{arith}
 use mathlib.Core.Bool.{Bool, true, false, cond, not, false≢true}
@@ -11,11 +11,11 @@ use Rattle.cases.proofs.Cases.{split, either}
 use Rattle.refusal.specs.Numbers.{none, malformed, invalidState}
 use Rattle.refusal.specs.First.{firstOf, accepted, Exact}
 use Rattle.refusal.proofs.First.{exact}
-use Rattle.leb128.specs.declared.Number.{Number}
 use Rattle.leb128.specs.Numbers.{base, groups}
 use Rattle.leb128.specs.Decoding.{decoded}
+use Rattle.leb128.specs.Series.{series}
 use Rattle.request.specs.declared.Parsed.{Parsed}
-use Rattle.request.specs.Reading.{fieldRead, channelRead, valueRead, refusalOf, readRefusals, readRefusal, refused, parsed}
+use Rattle.request.specs.Reading.{numbersIn, numbersRead, readRefusals, readRefusal, refused, parsed}
 use Rattle.request.specs.Writing.{writeRefusals, writeRefusal, written, bufferAfter}
 use Rattle.ads1299.specs.declared.Converter.{Converter}
 use Rattle.ads1299.specs.PowerUp.{validId, poweredUp}
@@ -56,19 +56,19 @@ by-one : {A : Type 0} (test : Bool) (numberOf : A → ℕ) (good : A) (refusedBy
 by-one true numberOf good refusedBy g r = record { exact = exact _ refl; number = g; kept = λ e. absurd (false≢true (sym e)) }
 by-one false numberOf good refusedBy g r = record { exact = exact _ refl; number = r invalidState; kept = λ e. refl }
 
--- numbers that are refused by their own refusals
+-- numbers that are refused by their own refusals, as those of a series are
 own-off : (n rest : ℕ) → cond (not (accepted n)) n rest ≡ none → (not (accepted n) ≡ false) × (rest ≡ none)
 own-off n rest e = split (accepted n) (λ a. (rw a, rw a at e)) (λ a. absurd (eqb-false n none a (rw a at e)))
 
-own-exact : (a b c : Number) → Exact (refusalOf a ∷ refusalOf b ∷ refusalOf c ∷ [])
-own-exact a b c =
+own-exact : (k count : ℕ) (bytes : List ℕ) → Exact (series k count bytes .refusals)
+unfolding series
+own-exact k zero bytes = exact _ refl
+own-exact k (suc count) bytes =
+    let number = decoded k bytes in
+    let rest = own-exact k count (drop (number .used) bytes) in
     record {
-      accepts = λ n. rw (n .0, n .1 .0, n .1 .1 .0);
-      refuses = λ e.
-          let x = own-off (a .refusal) _ e in
-          let y = own-off (b .refusal) _ (x .1) in
-          let z = own-off (c .refusal) none (y .1) in
-          (x .0, (y .0, (z .0, tt)));
+      accepts = λ n. rw (n .0) (rest .accepts (n .1));
+      refuses = λ e. let x = own-off (number .refusal) _ e in (x .0, rest .refuses (x .1));
     }
 
 -- a refused answer, by its own number
@@ -88,18 +88,27 @@ small-number (suc k) (b ∷ bytes) =
     (λ r. split (eqb (decoded k bytes .value) 0) (λ z. rw (r, z) (omega arith)) (λ z. rw (r, z) (omega arith)))
     (λ r. rw r (small-number k bytes))))
 
--- and so does that of a request
+-- and so does that of a series
+small-series : (k count : ℕ) (bytes : List ℕ) → firstOf (series k count bytes .refusals) ≤ malformed
+unfolding series
+small-series k zero bytes = omega arith
+small-series k (suc count) bytes =
+    either (λ (m : ℕ). m ≤ malformed) (not (accepted (decoded k bytes .refusal)))
+    (λ e. small-number k bytes)
+    (λ e. small-series k count (drop (decoded k bytes .used) bytes))
+
+-- a request is read as a series, of as many numbers as its field says
 small-reading : (bytes : List ℕ) → firstOf (readRefusals bytes) ≤ malformed
-small-reading bytes =
-    let small : (n rest : ℕ) → n ≤ malformed → rest ≤ malformed → cond (not (accepted n)) n rest ≤ malformed =
-    λ n rest h k. either (λ (m : ℕ). m ≤ malformed) (not (accepted n)) (λ e. h) (λ e. k) in
-    small _ _ (small-number groups bytes)
-    (small _ _ (small-number groups (drop (fieldRead bytes .used) bytes))
-    (small _ _ (small-number groups (drop (fieldRead bytes .used + channelRead bytes .used) bytes)) (omega arith)))
+unfolding numbersRead
+small-reading bytes = small-series groups (numbersIn bytes) bytes
+
+read-exact : (bytes : List ℕ) → Exact (readRefusals bytes)
+unfolding numbersRead
+read-exact bytes = own-exact groups (numbersIn bytes) bytes
 
 read-judges : (bytes : List ℕ) → Judges (readRefusals bytes) (λ (a : Parsed). a .refusal) (parsed bytes) refused
 unfolding readRefusal parsed
-read-judges bytes = chosen (readRefusals bytes) _ _ _ (own-exact (fieldRead bytes) (channelRead bytes) (valueRead bytes)) refl (λ m. refl)
+read-judges bytes = chosen (readRefusals bytes) _ _ _ (read-exact bytes) refl (λ m. refl)
 
 plan-judges : (s : Converter) (x : Submission)
     → Judges (refusals s (fieldOf (s .registers)) x) (λ (a : Planned). a .refusal) (planned s x) (λ n. record { refusal = n; length = 0; next = s })

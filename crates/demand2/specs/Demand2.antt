@@ -1,5 +1,5 @@
--- Demand 2: a request is accepted exactly when no refusal applies; its bytes set the named field and change nothing else.
-use Prim.Native.Nat.{ℕ}
+-- Demand 2: a request is accepted exactly when no refusal applies; its bytes make its settings and change nothing else.
+use Prim.Native.Nat.{ℕ, _<_}
 use mathlib.Core.Path.{_≡_}
 use mathlib.Core.Bool.{true, false}
 use mathlib.Core.List.{[]}
@@ -14,10 +14,11 @@ use Rattle.ads1299.specs.Validity.{valid}
 use Rattle.ads1299.specs.Run.{after, runRefusals}
 use Rattle.ads1299_fields.specs.declared.Place.{Place}
 use Rattle.ads1299_fields.specs.Names.{named}
-use Rattle.ads1299_fields.specs.Places.{place, apart}
 use Rattle.ads1299_settings.specs.Registers.{readAt, fieldOf}
-use Rattle.ads1299_fields.specs.Layout.{same}
+use Rattle.ads1299_settings.specs.Settings.{allApart}
+use Rattle.request.specs.Requests.{valueCount}
 use Rattle.planner.specs.Submission.{Submission}
+use Rattle.planner.specs.Settings.{settingAt, settings, sets}
 use Rattle.planner.specs.Refusals.{refusals}
 use Rattle.planner.specs.Planned.{plan, planned}
 
@@ -29,13 +30,13 @@ sent s x = after s (plan s x)
 pub record Fulfilled (s : Converter) (x : Submission) : Type 0 where
   -- no byte of the plan is refused
   pub unrefused : runRefusals s (plan s x) ≡ replicate (length (plan s x)) none
-  -- the named field has the value
-  pub value : fieldOf (sent s x .registers) (x .request .field) (x .request .channel) ≡ x .request .value
+  -- each value stands in its field: the one, or a channel's nine
+  pub values : (i : ℕ) → i < valueCount (x .request .field)
+      → fieldOf (sent s x .registers) (settingAt (x .request) i .field) (x .request .channel) ≡ settingAt (x .request) i .value
   -- every other field is as it was
-  pub fields : (f n : ℕ) → named f n ≡ true → same (x .request .field) (x .request .channel) f n ≡ false
-      → fieldOf (sent s x .registers) f n ≡ fieldOf (s .registers) f n
-  -- and so is every place, of any register, that has no bit of the named field
-  pub others : (j : Place) → apart (place (x .request .field) (x .request .channel)) j ≡ true → readAt (sent s x .registers) j ≡ readAt (s .registers) j
+  pub fields : (f n : ℕ) → named f n ≡ true → sets (x .request) f n ≡ false → fieldOf (sent s x .registers) f n ≡ fieldOf (s .registers) f n
+  -- and so is every place, of any register, that has no bit of a field that is set
+  pub others : (j : Place) → allApart (x .request .channel) (settings (x .request)) j ≡ true → readAt (sent s x .registers) j ≡ readAt (s .registers) j
   -- all but the registers is as it was, the modes too, and nothing is pending
   pub rest : sent s x ≡ withOutput (withRegisters s (sent s x .registers)) Empty
   -- the planner answers the state in which the bytes end, which passes 13, and how many they are

@@ -1,24 +1,26 @@
 -- What a state keeps through a list of requests, held to the first state and the reference model's cells: the invariant of every induction over a list.
 use Prim.Native.Nat.{ℕ}
 use mathlib.Core.Path.{_≡_, refl, _∙_, ap}
-use mathlib.Core.Bool.{true, cond, _&&_}
-use borrow.Author.Tests.{eqb-true}
-use lib.Dec.{eqb}
-use Rattle.cases.proofs.Cases.{split, and-both}
+use mathlib.Core.Bool.{true, cond}
+use Rattle.cases.proofs.Cases.{split}
+use Rattle.cases.proofs.Every.{follows}
 use Rattle.refusal.specs.First.{accepted}
 use Rattle.ads1299.specs.declared.Converter.{Converter}
 use Rattle.ads1299.specs.State.{withRegisters, withOutput}
 use Rattle.ads1299.specs.Formed.{Formed}
 use Rattle.ads1299_fields.specs.Names.{named}
-use Rattle.ads1299_fields.specs.Places.{bitAt}
+use Rattle.ads1299_fields.specs.Places.{place, apart, bitAt}
 use Rattle.ads1299_settings.specs.Registers.{readAt, fieldOf}
 use Rattle.ads1299_fields.specs.Layout.{Free}
-use Rattle.ads1299_settings.proofs.Registers.{written}
+use Rattle.ads1299_settings.specs.Settings.{Setting, Values, withValues}
+use Rattle.ads1299_settings.proofs.Settings.{same-values}
 use Rattle.planner.specs.Submission.{Submission}
-use Rattle.planner.specs.Refusals.{Values, fieldOwner, judged}
+use Rattle.planner.specs.Settings.{settings}
+use Rattle.planner.specs.Plan.{registersAfter}
+use Rattle.planner.specs.Refusals.{fieldOwner, judged}
 use Rattle.planner.specs.Planned.{refusalOf, changed, planned}
-use Rattle.planner.proofs.Accepted.{next, passed, next-formed, judged-next}
-use Rattle.isolation.specs.Reference.{names, cellsAfter}
+use Rattle.planner.proofs.Accepted.{next, passed, all-written, next-formed, judged-next}
+use Rattle.isolation.specs.Reference.{cellsAfter}
 
 -- the refusals read of the fields' values the sender's own alone
 pub judged-own : (s : Converter) (v w : Values) (x : Submission)
@@ -39,27 +41,20 @@ held-first s h = record { formed = h; judges = refl; cells = λ f n k. refl; fre
 
 module _ (t : Converter) (h : Formed t) (x : Submission) where
   field-next : (f n : ℕ) → named f n ≡ true
-      → fieldOf (next t x .registers) f n ≡ cond (accepted (refusalOf t x) && names x f n) (x .request .value) (fieldOf (t .registers) f n)
-  unfolding planned changed
-  field-next f n k =
-      split (accepted (refusalOf t x))
-      (λ e.
-      let w = written (t .registers) (x .request .field) (x .request .channel) (x .request .value) (h .registers .size) (passed t x e .set) in
-      split (names x f n)
-      (λ q.
-      let b = and-both (eqb (x .request .field) f) (eqb (x .request .channel) n) q in
-      rw (e, q, next, ← eqb-true (x .request .field) f (b .0), ← eqb-true (x .request .channel) n (b .1)) (w .value))
-      (λ q. rw (e, q, next) (w .fields f n k q)))
-      (λ e. rw (e, next))
+      → fieldOf (next t x .registers) f n
+      ≡ cond (accepted (refusalOf t x)) (withValues (fieldOf (t .registers)) (x .request .channel) (settings (x .request)) f n) (fieldOf (t .registers) f n)
+  unfolding planned changed registersAfter
+  field-next f n k = split (accepted (refusalOf t x)) (λ e. rw (e, next) (all-written t x h (passed t x e) .fields f n k)) (λ e. rw (e, next))
 
   free-next : (r i : ℕ) → Free r i → readAt (next t x .registers) (bitAt r i) ≡ readAt (t .registers) (bitAt r i)
-  unfolding planned changed
+  unfolding planned changed registersAfter
   free-next r i k =
+      let n = x .request .channel in
       split (accepted (refusalOf t x))
       (λ e.
       let p = passed t x e in
-      rw (e, next) (written (t .registers) (x .request .field) (x .request .channel) (x .request .value) (h .registers .size) (p .set) .others (bitAt r i)
-      (k (x .request .field) (x .request .channel) (p .name))))
+      rw (e, next) (all-written t x h p .others (bitAt r i)
+      (follows (λ (a : Setting). named (a .field) n) (λ (a : Setting). apart (place (a .field) n) (bitAt r i)) (λ a. k (a .field) n) (settings (x .request)) (p .names))))
       (λ e. rw (e, next))
 
 rest-next : (t : Converter) (x : Submission) → next t x ≡ withOutput (withRegisters t (next t x .registers)) (next t x .output)
@@ -78,7 +73,10 @@ module _ (s t : Converter) (c : Values) (k : Held s t c) (x : Submission) where
       record {
         formed = next-formed t x (k .formed);
         judges = judged-next t x (k .formed) ∙ k .judges;
-        cells = λ f n name. rw (field-next t (k .formed) x f n name, refusal-is, k .cells f n name);
+        cells = λ f n name.
+            rw (field-next t (k .formed) x f n name, refusal-is, k .cells f n name)
+            (ap (λ (v : ℕ). cond (accepted (judged s c x)) v (c f n))
+            (same-values (settings (x .request)) (fieldOf (t .registers)) c (x .request .channel) f n (k .cells f n name)));
         free = λ r i z. free-next t (k .formed) x r i z ∙ k .free r i z;
         rest = rest-next t x ∙ ap (λ (u : Converter). withOutput (withRegisters u (next t x .registers)) (next t x .output)) (k .rest);
       }

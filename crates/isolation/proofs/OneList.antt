@@ -11,10 +11,11 @@ use Rattle.ads1299.specs.State.{withRegisters, withOutput}
 use Rattle.ads1299.specs.Formed.{Formed}
 use Rattle.ads1299.specs.Run.{after}
 use Rattle.planner.specs.Submission.{Submission}
-use Rattle.planner.specs.Refusals.{Values}
+use Rattle.ads1299_settings.specs.Settings.{Values}
 use Rattle.planner.specs.Planned.{refusalOf, changed, plan, planned}
 use Rattle.planner.proofs.Accepted.{number-is, next, next-formed}
-use Rattle.demand2.proofs.Sent.{after-append, sent-plan}
+use Rattle.demand2.proofs.Modes.{after-append}
+use Rattle.demand2.proofs.Sent.{sent-plan}
 use Rattle.isolation.specs.Reference.{firstCells, cellsAfter, cellsFrom, numbersFrom}
 use Rattle.isolation.specs.Lists.{numbers, plans, end, touched}
 use Rattle.isolation.specs.Demand3.{AllFollowReference}

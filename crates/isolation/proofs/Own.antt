@@ -1,12 +1,13 @@
 -- A party's own cells and bits go by its own requests alone: two runs of the reference model side by side that agree in that party's cells.
 use Prim.Native.Nat.{ℕ}
-use mathlib.Core.Path.{_≡_, refl, sym, _∙_}
+use mathlib.Core.Path.{_≡_, refl, sym, _∙_, ap}
 use mathlib.Core.Logic.{_⊎_, inl, inr}
-use mathlib.Core.Bool.{true, false, _&&_}
-use mathlib.Core.List.{List, [], _∷_, getLastD, getLast-cons, cons-ne-nil}
+use mathlib.Core.Bool.{Bool, true, false, cond}
+use mathlib.Core.List.{List, [], _∷_, _++_, getLastD, getLast-cons, cons-ne-nil}
 use borrow.Author.Tests.{not-false, eqb-true, eqb-false}
 use lib.Dec.{eqb}
 use Rattle.cases.proofs.Cases.{split, and-both}
+use Rattle.cases.proofs.Every.{both}
 use Rattle.bits.specs.Fields.{field}
 use Rattle.refusal.specs.First.{accepted}
 use Rattle.refusal.proofs.First.{exact}
@@ -14,13 +15,17 @@ use Rattle.ads1299.specs.declared.Converter.{Converter}
 use Rattle.ads1299_fields.specs.Names.{named}
 use Rattle.ads1299_fields.specs.Places.{place, apart, bitAt}
 use Rattle.ads1299_settings.specs.Registers.{readAt, fieldOf}
-use Rattle.ads1299_fields.specs.Layout.{Free, InField}
+use Rattle.ads1299_fields.specs.Layout.{same, Free, InField}
 use Rattle.ads1299_fields.proofs.Apart.{free-or-in}
+use Rattle.ads1299_settings.specs.Settings.{Setting, Values, withValue, withValues}
 use Rattle.ads1299_settings.proofs.Registers.{bit-of}
+use Rattle.ads1299_settings.proofs.Settings.{same-values, unset-values}
 use Rattle.planner.specs.Submission.{Submission}
-use Rattle.planner.specs.Refusals.{Values, fieldOwner, refusals, judged}
-use Rattle.isolation.specs.Reference.{names, cellsAfter, cellsFrom, numbersFrom}
-use Rattle.isolation.specs.Merges.{from, answersTo, acceptedValues, Own}
+use Rattle.planner.specs.Settings.{settings, sets}
+use Rattle.planner.specs.Refusals.{fieldOwner, refusals, judged}
+use Rattle.planner.proofs.Settings.{same-owner}
+use Rattle.isolation.specs.Reference.{cellsAfter, cellsFrom, numbersFrom}
+use Rattle.isolation.specs.Merges.{from, answersTo, valuesFor, acceptedValues, Own}
 use Rattle.isolation.proofs.Held.{judged-own, Held}
 
 -- two models have the same in a party's own cells
@@ -53,19 +58,30 @@ module _ (s : Converter) (p : ℕ) where
   -- the party's own request
   pub own-step : (c d : Values) (x : Submission) → x .party ≡ p → SameOwn s p c d → SameOwn s p (cellsAfter s c x) (cellsAfter s d x)
   unfolding cellsAfter
-  own-step c d x e same f n k o = rw (judged-own s c d x (λ g m h z. same g m h (z ∙ e)), same f n k o)
+  own-step c d x e same f n k o =
+      let g = x .request in
+      rw (judged-own s c d x (λ g m h z. same g m h (z ∙ e)), same f n k o)
+      (ap (λ (v : ℕ). cond (accepted (judged s d x)) v (d f n)) (same-values (settings g) c d (g .channel) f n (same f n k o)))
 
-  -- another party's request
+  -- another party's request sets none of the party's cells
+  not-set : (c : Values) (x : Submission) → eqb (x .party) p ≡ false → accepted (judged s c x) ≡ true → (f n : ℕ) → fieldOwner (s .owners) f n ≡ p
+      → sets (x .request) f n ≡ false
+  not-set c x e a f n o =
+      let r = x .request in
+      let owns : Setting → Bool = λ y. eqb (fieldOwner (s .owners) (y .field) (r .channel)) (fieldOwner (s .owners) (r .field) (r .channel)) in
+      split (sets r f n)
+      (λ q.
+      let w = both owns (λ (y : Setting). same (y .field) (r .channel) f n) (settings r) (same-owner (s .owners) r) q in
+      let b = and-both (eqb (w .0 .field) f) (eqb (r .channel) n) (w .2) in
+      let his : fieldOwner (s .owners) (w .0 .field) (r .channel) ≡ p = rw (eqb-true (w .0 .field) f (b .0), eqb-true (r .channel) n (b .1)) o in
+      absurd (eqb-false (x .party) p e (owner-is s c x a ∙ sym (eqb-true _ _ (w .1)) ∙ his)))
+      (λ q. q)
+
   pub other-step : (c d : Values) (x : Submission) → eqb (x .party) p ≡ false → SameOwn s p c d → SameOwn s p (cellsAfter s c x) d
   unfolding cellsAfter
   other-step c d x e same f n k o =
       split (accepted (judged s c x))
-      (λ a. split (names x f n)
-      (λ q.
-      let b = and-both (eqb (x .request .field) f) (eqb (x .request .channel) n) q in
-      absurd (eqb-false (x .party) p e
-      (owner-is s c x a ∙ rw (eqb-true (x .request .field) f (b .0), eqb-true (x .request .channel) n (b .1)) o)))
-      (λ q. rw (a, q) (same f n k o)))
+      (λ a. rw a (unset-values (settings (x .request)) c (x .request .channel) f n (not-set c x e a f n o) ∙ same f n k o))
       (λ a. rw a (same f n k o))
 
   pub own-cells : (l : List Submission) (c d : Values) → SameOwn s p c d → SameOwn s p (cellsFrom s c l) (cellsFrom s d (from p l))
@@ -99,12 +115,30 @@ unfolding getLastD
 last-cons v first [] = refl
 last-cons v first (w ∷ values) = getLast-cons v (cons-ne-nil w values)
 
+last-append : (xs ys : List ℕ) (first : ℕ) → getLastD (xs ++ ys) first ≡ getLastD ys (getLastD xs first)
+last-append [] ys first = unfold getLastD in refl
+last-append (v ∷ xs) ys first = last-cons v first (xs ++ ys) ∙ last-append xs ys v ∙ rw (last-cons v first xs)
+
+last-value : (given : List Setting) (c : Values) (m f n : ℕ) → withValues c m given f n ≡ getLastD (valuesFor m given f n) (c f n)
+unfolding withValues valuesFor
+last-value [] c m f n = unfold getLastD in refl
+last-value (a ∷ rest) c m f n =
+    let ih = last-value rest (withValue c m a) m f n in
+    split (same (a .field) m f n)
+    (λ q. rw q (ih ∙ rw q (sym (last-cons (a .value) (c f n) (valuesFor m rest f n)))))
+    (λ q. rw q (ih ∙ rw q))
+
 pub cell-last : (s : Converter) (l : List Submission) (c : Values) (f n : ℕ)
     → cellsFrom s c l f n ≡ getLastD (acceptedValues f n l (numbersFrom s c l)) (c f n)
 unfolding cellsFrom numbersFrom acceptedValues
 cell-last s [] c f n = unfold getLastD in refl
 cell-last s (x ∷ l) c f n =
     let ih = cell-last s l (cellsAfter s c x) f n in
-    split (accepted (judged s c x) && names x f n)
-    (λ e. ih ∙ unfold cellsAfter in rw e (sym (last-cons (x .request .value) (c f n) (acceptedValues f n l (numbersFrom s (cellsAfter s c x) l)))))
+    let r = x .request in
+    let later = acceptedValues f n l (numbersFrom s (cellsAfter s c x) l) in
+    split (accepted (judged s c x))
+    (λ e.
+    ih ∙ unfold cellsAfter in rw e
+    (ap (getLastD later) (last-value (settings r) c (r .channel) f n)
+    ∙ sym (last-append (valuesFor (r .channel) (settings r) f n) later (c f n))))
     (λ e. ih ∙ unfold cellsAfter in rw e)

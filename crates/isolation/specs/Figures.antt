@@ -13,6 +13,8 @@ use Rattle.ads1299_serial.specs.Transfers.{transfer}
 use Rattle.ads1299.specs.declared.Converter.{Converter}
 use Rattle.ads1299.specs.State.{withOwners, withOutput, withContinuous, withPhase}
 use Rattle.ads1299.specs.PowerUp.{poweredUp}
+use Rattle.ads1299_fields.specs.Names.{wholeChannel}
+use Rattle.request.specs.Requests.{request}
 use Rattle.planner.specs.Submission.{Submission}
 use Rattle.isolation.specs.Lists.{numbers, plans, end}
 
@@ -44,7 +46,12 @@ row first requests answers bytes register output =
 
 -- gives a party's request for field 5 (BIASPn) of a channel to be on, with room for this many bytes
 abbrev pub on : ℕ → ℕ → ℕ → Submission
-on party channel room = record { party = party; request = record { field = 5; channel = channel; value = 1 }; room = room }
+on party channel room = record { party = party; request = request 5 channel (1 ∷ []); room = room }
+
+-- gives a party's request for a whole channel: gain 6, BIASPn and LOFF_FLIPn on, all else off
+abbrev pub whole : ℕ → ℕ → ℕ → Submission
+whole party channel room =
+    record { party = party; request = request wholeChannel channel (0 ∷ 6 ∷ 0 ∷ 0 ∷ 1 ∷ 0 ∷ 0 ∷ 0 ∷ 1 ∷ []); room = room }
 
 -- gives a fresh state with output pending, in which channels 1 and 2 are party 1's and channels 3 and 4 party 2's
 abbrev pub shared : Converter
@@ -62,13 +69,22 @@ halfway = withPhase (withContinuous (withOutput shared Empty) false) (Held (tran
 abbrev pub writes : ℕ → List ℕ
 writes byte = 0x11 ∷ 0x4D ∷ 0x00 ∷ byte ∷ 0x10 ∷ []
 
--- gives the table: two merges of the same lists; an unknown party's request before another; then lists with none accepted
+-- gives a whole channel's plan in continuous mode: CHnSET's command, then the bytes for BIAS_SENSP and LOFF_FLIP
+abbrev pub writesWhole : ℕ → ℕ → ℕ → List ℕ
+writesWhole command positive flip =
+    0x11 ∷ command ∷ 0x00 ∷ 0x60 ∷ 0x4D ∷ 0x04 ∷ positive ∷ 0x00 ∷ 0x00 ∷ 0x00 ∷ flip ∷ 0x10 ∷ []
+
+-- gives the table: two merges of the same lists; two of lists with whole channels; an unknown party's request before another; then lists with none accepted
 abbrev pub figures : List Figure
 figures =
     row shared (on 1 1 5 ∷ on 2 3 5 ∷ on 1 3 5 ∷ on 1 2 5 ∷ [])
     (0 ∷ 0 ∷ 6 ∷ 0 ∷ []) (writes 0x01 ∷ writes 0x05 ∷ [] ∷ writes 0x07 ∷ []) 0x07 Empty
     ∷ row shared (on 1 1 5 ∷ on 1 3 5 ∷ on 1 2 5 ∷ on 2 3 5 ∷ [])
     (0 ∷ 6 ∷ 0 ∷ 0 ∷ []) (writes 0x01 ∷ [] ∷ writes 0x03 ∷ writes 0x07 ∷ []) 0x07 Empty
+    ∷ row shared (whole 1 1 12 ∷ on 2 3 5 ∷ whole 2 4 12 ∷ whole 2 1 12 ∷ whole 1 2 11 ∷ [])
+    (0 ∷ 0 ∷ 0 ∷ 6 ∷ 9 ∷ []) (writesWhole 0x45 0x01 0x01 ∷ writes 0x05 ∷ writesWhole 0x48 0x0D 0x09 ∷ [] ∷ [] ∷ []) 0x0D Empty
+    ∷ row shared (on 2 3 5 ∷ whole 2 4 12 ∷ whole 2 1 12 ∷ whole 1 1 12 ∷ whole 1 2 11 ∷ [])
+    (0 ∷ 0 ∷ 6 ∷ 0 ∷ 9 ∷ []) (writes 0x04 ∷ writesWhole 0x48 0x0C 0x08 ∷ [] ∷ writesWhole 0x45 0x0D 0x09 ∷ [] ∷ []) 0x0D Empty
     ∷ row shared (on 9 1 5 ∷ on 2 3 5 ∷ []) (3 ∷ 0 ∷ []) ([] ∷ writes 0x04 ∷ []) 0x04 Empty
     ∷ row shared (on 0 1 5 ∷ on 2 3 4 ∷ on 1 9 5 ∷ []) (6 ∷ 9 ∷ 5 ∷ []) ([] ∷ [] ∷ [] ∷ []) 0x00 (At 3)
     ∷ row shared [] [] [] 0x00 (At 3)

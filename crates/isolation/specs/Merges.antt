@@ -2,18 +2,24 @@
 use Prim.Native.Nat.{ℕ}
 use mathlib.Core.Path.{_≡_}
 use mathlib.Core.Bool.{Bool, true, false, cond, _&&_}
-use mathlib.Core.List.{List, [], _∷_, getLastD}
+use mathlib.Core.List.{List, [], _∷_, _++_, getLastD}
 use lib.Dec.{eqb, ltb}
-use Rattle.bits.specs.Fields.{field}
+use lib.ListN.{getD}
+use Rattle.cases.specs.Every.{some}
 use Rattle.refusal.specs.First.{accepted}
 use Rattle.ads1299.specs.declared.Converter.{Converter}
-use Rattle.ads1299_fields.specs.Table.{rowOf}
+use Rattle.ads1299_fields.specs.Table.{Row, table}
 use Rattle.ads1299_fields.specs.Names.{named}
 use Rattle.ads1299_fields.specs.Places.{place, apart, bitAt}
+use Rattle.ads1299_fields.specs.Layout.{same}
+use Rattle.ads1299_settings.specs.Registers.{readAt}
+use Rattle.ads1299_settings.specs.Settings.{Setting}
 use Rattle.planner.specs.Submission.{Submission}
 use Rattle.planner.specs.Refusals.{fieldOwner}
-use Rattle.planner.specs.Plan.{planAround}
-use Rattle.isolation.specs.Reference.{names, firstCells}
+use Rattle.planner.specs.Settings.{settings}
+use Rattle.planner.specs.Runs.{runs, inRuns}
+use Rattle.planner.specs.Plan.{planWriting}
+use Rattle.isolation.specs.Reference.{firstCells}
 
 -- gives the requests of one party, in their order
 unfoldable pub from : ℕ → List Submission → List Submission
@@ -44,12 +50,17 @@ pub data Interleaving : Lists → List Submission → Type 0 where
   take-head : {lists : Lists} {l : List Submission} (x : Submission) (tail : List Submission) → lists (x .party) ≡ x ∷ tail
       → Interleaving (replaced lists (x .party) tail) l → Interleaving lists (x ∷ l)
 
+-- gives the values that settings made in channel m have for field f of channel n
+unfoldable pub valuesFor : ℕ → List Setting → ℕ → ℕ → List ℕ
+valuesFor m [] f n = []
+valuesFor m (a ∷ rest) f n = cond (same (a .field) m f n) (a .value ∷ valuesFor m rest f n) (valuesFor m rest f n)
+
 -- gives the values that accepted requests gave field f of channel n, of a list with its numbers
 unfoldable pub acceptedValues : ℕ → ℕ → List Submission → List ℕ → List ℕ
 acceptedValues f n [] numbers = []
 acceptedValues f n (x ∷ l) [] = []
 acceptedValues f n (x ∷ l) (number ∷ numbers) =
-    cond (accepted number && names x f n) (x .request .value ∷ acceptedValues f n l numbers) (acceptedValues f n l numbers)
+    cond (accepted number) (valuesFor (x .request .channel) (settings (x .request)) f n ++ acceptedValues f n l numbers) (acceptedValues f n l numbers)
 
 -- gives the last value that a list's accepted requests gave the field, by their numbers, or its value in the first state
 unfoldable pub lastAccepted : Converter → ℕ → ℕ → List Submission → List ℕ → ℕ
@@ -62,19 +73,20 @@ Own s party r i =
     → apart (place f n) (bitAt r i) ≡ false
     → fieldOwner (s .owners) f n ≡ party
 
--- the field's register has a bit of each channel, and so bits of several parties
+-- register r has a bit for each channel, and so bits of several parties
 abbrev pub spread : ℕ → Bool
-spread f = ltb 0 (rowOf f .bitStep)
+spread r = some (λ (row : Row). ltb 0 (row .bitStep) && eqb (row .register) r) table
 
--- two plans of one request with its number: no bytes where it is refused; else the same bytes around two data bytes, which agree
--- in every bit that no other party's field has, and wholly where the register has no other party's bits
+-- two plans of one request with its number: no bytes where it is refused; else both write the request's runs, of two lists of registers,
+-- which agree in every bit that no other party's field has, and wholly in each written register that has no bits of several parties
 pub record Alike (s : Converter) (x : Submission) (number : ℕ) (first second : List ℕ) : Type 0 where
-  pub one : ℕ
-  pub other : ℕ
-  pub first-is : first ≡ cond (accepted number) (planAround s (x .request) one) []
-  pub second-is : second ≡ cond (accepted number) (planAround s (x .request) other) []
-  pub own-bits : (i : ℕ) → Own s (x .party) (place (x .request .field) (x .request .channel) .register) i → field one i 1 ≡ field other i 1
-  pub same-plan : spread (x .request .field) ≡ false → first ≡ second
+  pub one : List ℕ
+  pub other : List ℕ
+  pub first-is : first ≡ cond (accepted number) (planWriting s (x .request) one) []
+  pub second-is : second ≡ cond (accepted number) (planWriting s (x .request) other) []
+  pub own-bits : (r i : ℕ) → Own s (x .party) r i → readAt one (bitAt r i) ≡ readAt other (bitAt r i)
+  pub own-registers : accepted number ≡ true → (r : ℕ) → inRuns (runs (x .request)) r ≡ true → spread r ≡ false → getD one r 0 ≡ getD other r 0
+  pub same-plan : ((r : ℕ) → inRuns (runs (x .request)) r ≡ true → spread r ≡ false) → first ≡ second
 
 -- The plans of a list of requests with their numbers are alike, one by one.
 pub data AllAlike (s : Converter) : List Submission → List ℕ → List (List ℕ) → List (List ℕ) → Type 0 where

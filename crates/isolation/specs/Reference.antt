@@ -1,25 +1,23 @@
 -- The reference model (document 01: the chart): a cell for each field, and a step that knows no register and no byte.
 use Prim.Native.Nat.{ℕ}
-use mathlib.Core.Bool.{Bool, cond, _&&_}
+use mathlib.Core.Bool.{cond}
 use mathlib.Core.List.{List, [], _∷_}
 use Rattle.refusal.specs.First.{accepted}
 use Rattle.ads1299.specs.declared.Converter.{Converter}
 use Rattle.ads1299_settings.specs.Registers.{fieldOf}
-use Rattle.ads1299_fields.specs.Layout.{same}
+use Rattle.ads1299_settings.specs.Settings.{Values, withValues}
 use Rattle.planner.specs.Submission.{Submission}
-use Rattle.planner.specs.Refusals.{Values, judged}
-
--- the request names field f of channel n
-abbrev pub names : Submission → ℕ → ℕ → Bool
-names x f n = same (x .request .field) (x .request .channel) f n
+use Rattle.planner.specs.Settings.{settings}
+use Rattle.planner.specs.Refusals.{judged}
 
 -- gives the answer to a request: the first refusal that applies, by the cells and else by the first state, or 0
 abbrev pub referenceNumber : Converter → Values → Submission → ℕ
 referenceNumber first cells x = judged first cells x
 
--- gives the cells after a request: the named cell takes the value where the request is accepted, and no other cell changes
+-- gives the cells after a request: where it is accepted each cell that it sets takes its value, and no other cell changes
 unfoldable pub cellsAfter : Converter → Values → Submission → Values
-cellsAfter first cells x f n = cond (accepted (referenceNumber first cells x) && names x f n) (x .request .value) (cells f n)
+cellsAfter first cells x f n =
+    cond (accepted (referenceNumber first cells x)) (withValues cells (x .request .channel) (settings (x .request)) f n) (cells f n)
 
 -- gives the numbers that a list of requests is answered, from the cells as they stand
 unfoldable pub numbersFrom : Converter → Values → List Submission → List ℕ

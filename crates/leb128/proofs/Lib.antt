@@ -1,3 +1,4 @@
 pub mod Groups
 pub mod RoundTrip
+pub mod Series
 pub mod Figures

@@ -1,13 +1,14 @@
 -- What an accepted request has passed, and that it changes no later judgement.
-use Prim.Native.Nat.{ℕ, _≤_}
+use Prim.Native.Nat.{_≤_}
 use mathlib.Core.Path.{_≡_, refl, sym, _∙_, fun-ext}
-use mathlib.Core.Bool.{true, false, false≢true}
+use mathlib.Core.Bool.{true, false, not, false≢true}
 use native.Mathlib.Omega.{arith}
 use borrow.Author.Tests.{not-false, eqb-true, eq-eqb, ne-eqb, ltb-false}
 use lib.Dec.{eqb}
 use lib.ListN.{getD}
-use lib.Seq.{getD-set-other}
+use Rattle.cases.specs.Every.{every}
 use Rattle.cases.proofs.Cases.{split}
+use Rattle.cases.proofs.Every.{follows}
 use Rattle.refusal.specs.Numbers.{none}
 use Rattle.refusal.specs.First.{accepted}
 use Rattle.refusal.proofs.First.{exact}
@@ -20,17 +21,19 @@ use Rattle.ads1299.specs.Formed.{Formed}
 use Rattle.ads1299.specs.Validity.{valid}
 use Rattle.ads1299.proofs.ValidState.{parts, whole}
 use Rattle.parties.specs.Parties.{knownParty}
-use Rattle.ads1299_fields.specs.Names.{isField, takesChannel, named}
+use Rattle.ads1299_fields.specs.Names.{knownField, takesChannel, named}
 use Rattle.ads1299_fields.specs.Places.{place}
-use Rattle.ads1299_fields.specs.Values.{legal, settable}
-use Rattle.ads1299_settings.specs.Registers.{withField, fieldByte}
 use Rattle.ads1299_fields.proofs.Apart.{place-inside}
-use Rattle.ads1299_settings.proofs.Registers.{legal-settable, written}
+use Rattle.ads1299_settings.specs.Settings.{Setting, allSettable}
+use Rattle.ads1299_settings.specs.Claims.{AllWritten}
+use Rattle.ads1299_settings.proofs.Settings.{settings-written, register-kept}
 use Rattle.request.specs.declared.Request.{Request}
 use Rattle.planner.specs.Submission.{Submission}
-use Rattle.planner.specs.Plan.{planLength}
+use Rattle.planner.specs.Settings.{settings, allLegal}
+use Rattle.planner.specs.Plan.{registersAfter, planLength}
 use Rattle.planner.specs.Refusals.{fieldOwner, refusals, judged}
 use Rattle.planner.specs.Planned.{refusalOf, changed, planned}
+use Rattle.planner.proofs.Settings.{all-named, all-settable}
 
 -- the state that the planner answers
 abbrev pub next : Converter → Submission → Converter
@@ -51,12 +54,12 @@ refused-is s x z = ne-eqb _ _ (λ e. z (number-is s x ∙ e))
 pub record Passed (s : Converter) (x : Submission) : Type 0 where
   pub state : valid s ≡ true
   pub party : knownParty (x .party) ≡ true
-  pub name : named (x .request .field) (x .request .channel) ≡ true
+  pub takes : takesChannel (x .request .field) (x .request .channel) ≡ true
   pub owner : x .party ≡ fieldOwner (s .owners) (x .request .field) (x .request .channel)
-  pub value : legal (x .request .field) (x .request .value) ≡ true
-  pub set : settable (x .request .field) (x .request .channel) (x .request .value) ≡ true
+  pub names : every (λ (a : Setting). named (a .field) (x .request .channel)) (settings (x .request)) ≡ true
+  pub set : allSettable (x .request .channel) (settings (x .request)) ≡ true
   pub waits : s .phase ≡ Waiting
-  pub room : planLength s ≤ x .room
+  pub room : planLength s (x .request) ≤ x .room
 
 pub waiting-is : (p : Phase) → isWaiting p ≡ true → p ≡ Waiting
 waiting-is Waiting e = refl
@@ -64,44 +67,41 @@ waiting-is (Held t) e = absurd (false≢true e)
 waiting-is (Counting t) e = absurd (false≢true e)
 
 pub passed : (s : Converter) (x : Submission) → accepted (refusalOf s x) ≡ true → Passed s x
-unfolding refusalOf judged named
+unfolding refusalOf judged
 passed s x e =
     let r = x .request in
     let c = exact (refusals s (λ f n. 0) x) refl .refuses (eqb-true (refusalOf s x) 0 e) in
-    let name : named (r .field) (r .channel) ≡ true =
-    rw (not-false (isField (r .field)) (c .1 .1 .0), not-false (takesChannel (r .field) (r .channel)) (c .1 .1 .1 .0)) in
-    let value = not-false (legal (r .field) (r .value)) (c .1 .1 .1 .1 .1 .0) in
+    let takes = not-false (takesChannel (r .field) (r .channel)) (c .1 .1 .1 .0) in
+    let names = all-named r (not-false (knownField (r .field)) (c .1 .1 .0)) takes in
     record {
       state = not-false (valid s) (c .0);
       party = not-false (knownParty (x .party)) (c .1 .0);
-      name = name;
+      takes = takes;
       owner = eqb-true _ _ (not-false (eqb (x .party) (fieldOwner (s .owners) (r .field) (r .channel))) (c .1 .1 .1 .1 .0));
-      value = value;
-      set = legal-settable (r .field) (r .channel) (r .value) name value;
+      names = names;
+      set = all-settable (r .channel) (settings r) names (not-false (allLegal (settings r)) (c .1 .1 .1 .1 .1 .0));
       waits = waiting-is (s .phase) (not-false (isWaiting (s .phase)) (c .1 .1 .1 .1 .1 .1 .0));
-      room = ltb-false (x .room) (planLength s) (c .1 .1 .1 .1 .1 .1 .1 .0);
+      room = ltb-false (x .room) (planLength s r) (c .1 .1 .1 .1 .1 .1 .1 .0);
     }
 
 -- the registers that an accepted request leaves
 module _ (s : Converter) (x : Submission) (h : Formed s) (p : Passed s x) where
-  abbrev field : ℕ
-  field = x .request .field
+  pub all-written : AllWritten (s .registers) (x .request .channel) (settings (x .request))
+  all-written = settings-written (s .registers) (x .request .channel) (settings (x .request)) (h .registers .size) (p .set)
 
-  abbrev channel : ℕ
-  channel = x .request .channel
-
-  id-kept : getD (withField (s .registers) field channel (x .request .value)) ID 0 ≡ getD (s .registers) ID 0
+  id-kept : getD (registersAfter (s .registers) (x .request)) ID 0 ≡ getD (s .registers) ID 0
+  unfolding registersAfter
   id-kept =
-      rw (written (s .registers) field channel (x .request .value) (h .registers .size) (p .set) .by-byte)
-      (getD-set-other (s .registers) (place field channel .register) ID (fieldByte (s .registers) field channel (x .request .value)) 0
-      (omega (arith, place-inside field channel (p .name) .after-id)))
+      register-kept (settings (x .request)) (s .registers) (x .request .channel) ID (h .registers .size) (p .set)
+      (follows (λ (a : Setting). named (a .field) (x .request .channel)) (λ (a : Setting). not (eqb (place (a .field) (x .request .channel) .register) ID))
+      (λ a k. rw (ne-eqb (place (a .field) (x .request .channel) .register) ID (λ z. omega (arith, place-inside (a .field) (x .request .channel) k .after-id))))
+      (settings (x .request)) (p .names))
 
   changed-formed : Formed (changed s (x .request))
-  unfolding changed
+  unfolding changed registersAfter
   changed-formed =
-      let w = written (s .registers) field channel (x .request .value) (h .registers .size) (p .set) in
       record {
-        registers = record { size = w .size ∙ h .registers .size; bytes = w .bytes (h .registers .bytes) };
+        registers = record { size = all-written .size ∙ h .registers .size; bytes = all-written .bytes (h .registers .bytes) };
         owners = h .owners;
         latest = h .latest;
         shifting = h .shifting;

@@ -1,5 +1,10 @@
+pub mod Settings
+pub mod Coverage
+pub mod Unused
 pub mod Accepted
+pub mod Runs
 pub mod Length
+pub mod RunBytes
 pub mod Buffer
 pub mod Placement
 pub mod Figures

@@ -23,7 +23,7 @@ workedOut (planning s x refusal bytes) = planning s x (planned s x .refusal) (pl
 
 -- gives a party's request for a field, a channel and a value, with so much room
 abbrev pub asks : ℕ → ℕ → ℕ → ℕ → ℕ → Submission
-asks party field channel value room = record { party = party; request = request field channel value; room = room }
+asks party field channel value room = record { party = party; request = request field channel (value ∷ []); room = room }
 
 -- gives the state after power-up, where every channel is the administrator's
 abbrev pub fresh : Converter

@@ -1,8 +1,12 @@
 pub mod Submission
+pub mod Settings
+pub mod Runs
 pub mod Plan
 pub mod Refusals
 pub mod Planned
 pub mod Buffer
 pub mod Lengths
+pub mod Coverage
+pub mod Unused
 pub mod Placement
 pub mod Figures

@@ -13,9 +13,9 @@ use Rattle.planner.specs.Buffer.{txAfter}
 
 -- the plan lies in the buffer from the place on; every byte before and after it is as it was
 pub record InPlace (s : Converter) (x : Submission) (tx : List ℕ) (at : ℕ) : Type 0 where
-  pub bytes : take (planLength s) (drop at (txAfter s x tx at)) ≡ plan s x
+  pub bytes : take (planLength s (x .request)) (drop at (txAfter s x tx at)) ≡ plan s x
   pub before : take at (txAfter s x tx at) ≡ take at tx
-  pub after : drop (at + planLength s) (txAfter s x tx at) ≡ drop (at + planLength s) tx
+  pub after : drop (at + planLength s (x .request)) (txAfter s x tx at) ≡ drop (at + planLength s (x .request)) tx
 
 -- the buffer keeps its length; an accepted request's plan lies in it, and a refused request leaves it as it was
 pub record Placed (s : Converter) (x : Submission) (tx : List ℕ) (at : ℕ) : Type 0 where

@@ -8,19 +8,19 @@ use Rattle.request.specs.declared.Request.{Request}
 use Rattle.ads1299_serial.specs.declared.Output.the-variants.{Empty}
 use Rattle.ads1299.specs.declared.Converter.{Converter}
 use Rattle.ads1299.specs.State.{withRegisters, withOutput}
-use Rattle.ads1299_settings.specs.Registers.{fieldOf, withField}
+use Rattle.ads1299_settings.specs.Registers.{fieldOf}
 use Rattle.planner.specs.declared.Planned.{Planned}
 use Rattle.planner.specs.Submission.{Submission}
-use Rattle.planner.specs.Plan.{planOf, planLength}
+use Rattle.planner.specs.Plan.{registersAfter, planOf, planLength}
 use Rattle.planner.specs.Refusals.{judged}
 
 -- gives the request's refusal number with the fields' values in the registers, or 0
 unfoldable pub refusalOf : Converter → Submission → ℕ
 refusalOf s x = judged s (fieldOf (s .registers)) x
 
--- gives the state with the named field set and nothing pending, all else as it is
+-- gives the state with the settings made and nothing pending, all else as it is
 unfoldable pub changed : Converter → Request → Converter
-changed s r = withOutput (withRegisters s (withField (s .registers) (r .field) (r .channel) (r .value))) Empty
+changed s r = withOutput (withRegisters s (registersAfter (s .registers) r)) Empty
 
 -- gives the request's plan, or no bytes where it is refused
 unfoldable pub plan : Converter → Submission → List ℕ
@@ -30,5 +30,5 @@ plan s x = cond (accepted (refusalOf s x)) (planOf s (x .request)) []
 unfoldable pub planned : Converter → Submission → Planned
 planned s x =
     cond (accepted (refusalOf s x))
-    (record { refusal = none; length = planLength s; next = changed s (x .request) })
+    (record { refusal = none; length = planLength s (x .request); next = changed s (x .request) })
     (record { refusal = refusalOf s x; length = 0; next = s })

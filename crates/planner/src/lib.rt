@@ -1,13 +1,18 @@
 // From a setting request to the bytes that the converter is sent.
+ghost use mathlib.Core.Bool.{true};
 ghost use mathlib.Core.Path.{_≡_};
-ghost use Prim.Native.Nat.{_<_, _≤_};
+ghost use Prim.Native.Nat.{_+_, _<_, _≤_};
 ghost use lib.Dec.{eqb};
 ghost use lib.ListN.{length};
 ghost use Rattle.ads1299_registers.specs.Addresses.{registerCount};
+ghost use Rattle.ads1299_fields.specs.Names.{takesChannel};
 ghost use Rattle.ads1299.specs.Formed.{Formed};
+ghost use Rattle.request.specs.Requests.{mostValues};
 ghost use Rattle.planner.specs.Submission.{roomAt, submission};
+ghost use Rattle.planner.specs.Settings.{settingAt, settings, allLegal};
+ghost use Rattle.planner.specs.Runs.{run, runs, writing, writingAll, runsLength};
 ghost use Rattle.planner.specs.Refusals.{fieldOwner};
-ghost use Rattle.planner.specs.Plan.{around, writing, planLength};
+ghost use Rattle.planner.specs.Plan.{only, entering, leaving, registersAfter, planWriting, planLength};
 ghost use Rattle.planner.specs.Planned.{refusalOf, changed, planned};
 ghost use Rattle.planner.specs.Buffer.{txAfter};
 ghost use Rattle.splice.specs.Splice.{spliced};
@@ -17,11 +22,16 @@ use ads1299_commands::SDATAC;
 use ads1299_commands::STANDBY;
 use ads1299_commands::WAKEUP;
 use ads1299_commands::WREG;
+use ads1299_fields::WHOLE_CHANNEL;
+use ads1299_registers::BIAS_SENSP;
+use ads1299_registers::CH1SET;
+use ads1299_registers::COUNT;
+use ads1299_registers::LOFF_FLIP;
 use ads1299_serial::Output;
 use request::Request;
 
 // The most bytes of a plan.
-pub const LONGEST: usize = 7;
+pub const LONGEST: usize = 14;
 
 // The plan's length and the state after the plan, whose bytes are not to be fed to that state again.
 pub struct Planned {
@@ -46,15 +56,79 @@ fn is_field_owner(
     }
 }
 
-// A plan's length depends on the mode alone.
-fn plan_length(c: Converter) -> usize
-    ensures { λ r. ⌜ r ≡ planLength c ⌝ }
+// The field that value i of a request is for.
+fn field_at(request: Request, i: usize) -> u32
+    requires { ⌜ i < mostValues ⌝ }
+    ensures { λ r. ⌜ r ≡ settingAt request i .field ⌝ }
 {
-    if c.standby {
-        if c.continuous { LONGEST } else { 5 }
+    if request.field == WHOLE_CHANNEL {
+        i as u32 + 1
     } else {
-        if c.continuous { 5 } else { 3 }
+        request.field
     }
+}
+
+// Whether every value is legal for its field. All are judged before a byte is written.
+fn are_legal(request: Request) -> bool
+    ensures { λ r. ⌜ r ≡ allLegal (settings request) ⌝ }
+{
+    let count = request::count_values(request.field);
+    let values = request.values;
+    let mut i = 0;
+    while i < count {
+        if ads1299_fields::is_legal(field_at(request, i), values[i]) {
+            i += 1;
+        } else {
+            return false;
+        }
+    }
+    true
+}
+
+// The registers with every setting of the request made.
+fn set_all(registers: [u8; COUNT], request: Request) -> [u8; COUNT]
+    ensures { λ r. ⌜ r ≡ registersAfter registers request ⌝ }
+{
+    let count = request::count_values(request.field);
+    let values = request.values;
+    let mut after = registers;
+    let mut done = 0;
+    while done < count {
+        let field = field_at(request, done);
+        let set = ads1299_settings::write(after, field, request.channel, values[done]);
+        after = set;
+        done += 1;
+    }
+    after
+}
+
+// How many bytes leave the modes that the converter is in and go back to them.
+fn count_modes(standby: bool, continuous: bool) -> usize
+    ensures { λ r. ⌜ r ≡ length (entering standby continuous) + length (leaving standby continuous) ⌝ }
+{
+    if standby {
+        if continuous { 4 } else { 2 }
+    } else {
+        if continuous { 2 } else { 0 }
+    }
+}
+
+// How many bytes write the request's registers: two for each run, and one for each register.
+fn count_written(request: Request) -> usize
+    ensures { λ r. ⌜ r ≡ runsLength (runs request) ⌝ }
+{
+    if request.field == WHOLE_CHANNEL {
+        10
+    } else {
+        3
+    }
+}
+
+// A plan's length depends on the modes and the field alone.
+fn plan_length(c: Converter, request: Request) -> usize
+    ensures { λ r. ⌜ r ≡ planLength c request ⌝ }
+{
+    count_modes(c.standby, c.continuous) + count_written(request)
 }
 
 // The bytes from a place on, counted without a sum that could wrap.
@@ -72,12 +146,12 @@ fn refuse(c: Converter, party: u32, request: Request, room: usize) -> u8
     let phase = c.phase;
     let valid = c.is_valid();
     let known = parties::is_known(party);
-    let field = ads1299_fields::is_field(request.field);
+    let field = ads1299_fields::is_known_field(request.field);
     let channel = ads1299_fields::takes_channel(request.field, request.channel);
     let owner = is_field_owner(owners, party, request.field, request.channel);
-    let legal = ads1299_fields::is_legal(request.field, request.value);
+    let legal = are_legal(request);
     let waiting = ads1299_serial::is_waiting(phase);
-    let needed = plan_length(c);
+    let needed = plan_length(c, request);
     let numbers = [
         refusal::when(!valid, refusal::INVALID_STATE),
         refusal::when(!known, refusal::UNKNOWN_PARTY),
@@ -91,44 +165,82 @@ fn refuse(c: Converter, party: u32, request: Request, room: usize) -> u8
     refusal::first_of(&numbers)
 }
 
-// Writes bytes over the start of a part, and gives their number.
-fn put(part: &mut [u8], bytes: &[u8]) -> usize
-    requires { ⌜ length (now bytes) ≤ length (now part) ⌝ }
-    ensures { λ r. ⌜ (r ≡ length (now (bytes .entry)))
-        × (now (part .exit) ≡ spliced (now (part .entry)) 0 (now (bytes .entry))) ⌝ }
+// Writes bytes from a place on, and gives the place after them.
+fn put(tx: &mut [u8], at: usize, bytes: &[u8]) -> usize
+    requires { ⌜ at + length (now bytes) ≤ length (now tx) ⌝ }
+    ensures { λ r. ⌜ (r ≡ at + length (now (bytes .entry))) × (now (tx .exit) ≡ spliced (now (tx .entry)) at (now (bytes .entry))) ⌝ }
 {
-    bytes::copy(bytes, part)
+    let count = bytes::copy(bytes, &mut tx[at..]);
+    at + count
 }
 
-// Writes the plan, 3 to 7 bytes, over the start of the part that it is lent, and gives its length.
-fn write_plan(part: &mut [u8], standby: bool, continuous: bool, address: u8, byte: u8) -> usize
-    requires { ⌜ (address < registerCount) × (length (around standby continuous (writing address byte)) ≤ length (now part)) ⌝ }
-    ensures { λ r. ⌜ (r ≡ length (around standby continuous (writing address byte)))
-        × (now (part .exit) ≡ spliced (now (part .entry)) 0 (around standby continuous (writing address byte))) ⌝ }
+// Writes a byte where it is wanted, and gives the place after it.
+fn put_only(tx: &mut [u8], at: usize, wanted: bool, byte: u8) -> usize
+    requires { ⌜ at + length (only wanted byte) ≤ length (now tx) ⌝ }
+    ensures { λ r. ⌜ (r ≡ at + length (only wanted byte)) × (now (tx .exit) ≡ spliced (now (tx .entry)) at (only wanted byte)) ⌝ }
 {
-    let command = WREG + address;
-    if standby {
-        if continuous {
-            let plan = [WAKEUP, SDATAC, command, 0, byte, RDATAC, STANDBY];
-            return put(part, &plan);
-        }
-        let plan = [WAKEUP, command, 0, byte, STANDBY];
-        return put(part, &plan);
+    if wanted {
+        tx[at] = byte;
+        at + 1
+    } else {
+        at
     }
-    if continuous {
-        let plan = [SDATAC, command, 0, byte, RDATAC];
-        return put(part, &plan);
-    }
-    let plan = [command, 0, byte];
-    put(part, &plan)
 }
 
-// The state after the plan, without a byte sent: the field set, and what was pending lost.
+// Writes the bytes that write a run of registers, and gives the place after them.
+fn put_run(tx: &mut [u8], at: usize, registers: [u8; COUNT], first: u8, further: u8) -> usize
+    requires { ⌜ (first + further < registerCount) × (at + (3 + further) ≤ length (now tx)) ⌝ }
+    ensures { λ r. ⌜ (r ≡ at + length (writing registers (run first further)))
+        × (now (tx .exit) ≡ spliced (now (tx .entry)) at (writing registers (run first further))) ⌝ }
+{
+    let command = [WREG + first, further];
+    let data = put(tx, at, &command);
+    let start = first as usize;
+    let end = start + further as usize + 1;
+    put(tx, data, &registers[start..end])
+}
+
+// Writes the bytes that write the request's runs, and gives the place after them.
+fn put_runs(tx: &mut [u8], at: usize, registers: [u8; COUNT], request: Request) -> usize
+    requires { ⌜ (takesChannel (request .field) (request .channel) ≡ true) × (at + runsLength (runs request) ≤ length (now tx)) ⌝ }
+    ensures { λ r. ⌜ (r ≡ at + length (writingAll registers (runs request)))
+        × (now (tx .exit) ≡ spliced (now (tx .entry)) at (writingAll registers (runs request))) ⌝ }
+{
+    if request.field == WHOLE_CHANNEL {
+        let set = (CH1SET + request.channel as usize - 1) as u8;
+        let place = put_run(tx, at, registers, set, 0);
+        return put_run(
+            tx,
+            place,
+            registers,
+            BIAS_SENSP as u8,
+            (LOFF_FLIP - BIAS_SENSP) as u8,
+        );
+    }
+    let place = ads1299_fields::locate(request.field, request.channel);
+    put_run(tx, at, registers, place.register, 0)
+}
+
+// The plan writer: the plan goes over the start of the part that it is lent, with the state's registers as far as the request is about
+// them.
+fn write_plan(part: &mut [u8], c: Converter, request: Request)
+    requires { ⌜ (takesChannel (request .field) (request .channel) ≡ true) × (planLength c request ≤ length (now part)) ⌝ }
+    ensures { λ _. ⌜ now (part .exit) ≡ spliced (now (part .entry)) 0 (planWriting c request (c .registers)) ⌝ }
+{
+    let registers = c.registers;
+    let awake = put_only(part, 0, c.standby, WAKEUP);
+    let stopped = put_only(part, awake, c.continuous, SDATAC);
+    let written = put_runs(part, stopped, registers, request);
+    let started = put_only(part, written, c.continuous, RDATAC);
+    put_only(part, started, c.standby, STANDBY);
+}
+
+// The state after the plan, without a byte sent: the settings made, and what was pending lost.
 fn change(c: Converter, request: Request) -> Converter
     ensures { λ r. ⌜ r ≡ changed c request ⌝ }
 {
     let before = c.registers;
-    let registers = ads1299_settings::write(before, request.field, request.channel, request.value);
+    let registers = set_all(before, request);
     Converter {
         registers,
         output: Output::Empty,
@@ -144,16 +256,9 @@ pub fn plan(c: Converter, party: u32, request: Request, tx: &mut [u8], at: usize
 {
     let number = refuse(c, party, request, count_room(tx, at));
     if number == refusal::NONE {
-        let registers = c.registers;
-        let place = ads1299_fields::locate(request.field, request.channel);
-        let byte = ads1299_settings::new_byte(
-            registers,
-            request.field,
-            request.channel,
-            request.value,
-        );
-        let length = write_plan(&mut tx[at..], c.standby, c.continuous, place.register, byte);
+        let length = plan_length(c, request);
         let next = change(c, request);
+        write_plan(&mut tx[at..], next, request);
         Planned {
             refusal: refusal::NONE,
             length,

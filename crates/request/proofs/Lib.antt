@@ -1,5 +1,5 @@
 pub mod Padding
-pub mod Writing
 pub mod Reading
+pub mod Writing
 pub mod RoundTrip
 pub mod Figures

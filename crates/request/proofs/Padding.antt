@@ -16,7 +16,7 @@ use Rattle.request.specs.declared.Staged.{Staged}
 use Rattle.request.specs.Requests.{longest}
 use Rattle.request.specs.Writing.{staged, contents}
 
-abbrev zeros : ℕ → List ℕ
+abbrev pub zeros : ℕ → List ℕ
 zeros n = replicate n 0
 
 length-zeros : (n : ℕ) → length (zeros n) ≡ n
@@ -25,14 +25,23 @@ length-zeros n = length-replicate n _
 join-zeros : (n m : ℕ) → zeros n ++ zeros m ≡ zeros (n + m)
 join-zeros n m = replicate-append-replicate n m _
 
-drop-zeros : (g n : ℕ) → g ≤ n → drop g (zeros n) ≡ zeros (n - g)
+pub drop-zeros : (g n : ℕ) → g ≤ n → drop g (zeros n) ≡ zeros (n - g)
 drop-zeros g n h =
     let e : n ≡ g + (n - g) = omega arith in
     ap (λ (k : ℕ). drop g (zeros k)) e ∙ ap (λ (l : List ℕ). drop g l) (sym (join-zeros g (n - g))) ∙ drop-at (zeros g) (zeros (n - g)) g (length-zeros g)
 
+-- a list that is as long as the array
+pub padded-whole : (m : ℕ) (l : List ℕ) → length l ≡ m → padded m l ≡ l
+unfolding padded
+padded-whole m l e = let z : m - length l ≡ 0 = omega arith in rw (z, append-nil)
+
 pub length-padded : (m : ℕ) (l : List ℕ) → length l ≤ m → length (padded m l) ≡ m
 unfolding padded
 length-padded m l h = length-append l (zeros (m - length l)) ∙ omega (arith, length-zeros (m - length l))
+
+pub padded-least : (m : ℕ) (l : List ℕ) → m ≤ length (padded m l)
+unfolding padded
+padded-least m l = omega (arith, length-append l (zeros (m - length l)), length-zeros (m - length l))
 
 -- what is known of an array that holds l
 module _ (e : Staged) (l : List ℕ) (is : e ≡ staged l) where

@@ -1,49 +1,155 @@
--- Reading undoes writing and writing undoes reading.
-use mathlib.Core.Bool.{true}
+-- Reading undoes writing and writing undoes reading, by the laws of a series.
+use mathlib.Core.Bool.{true, false}
 use mathlib.Core.List.{List, [], _∷_, _++_, append-assoc}
 use mathlib.Core.Path.{_≡_, refl, sym, ap, _∙_}
-use Prim.Native.Nat.{ℕ, zero, suc, _+_, _≤_}
+use Prim.Native.Nat.{ℕ, suc, _+_, _-_, _*_, _/_, _≤_, _<_}
 use native.Mathlib.Omega.{arith}
-use borrow.Author.Tests.{le-leb, ltb-false, eqb-true, eqb-false}
-use lib.Dec.{ltb, eqb}
-use lib.ListN.{length, take, drop, length-append}
+use borrow.Author.Tests.{leb-true, ltb-true, ltb-false, eq-eqb, ne-eqb, eqb-true, eqb-false}
+use lib.Dec.{ltb, leb}
+use lib.ListN.{length, take, drop}
 use lib.Pow.{areBytes}
-use lib.Seq.{take-append-seam, drop-append-seam, drop-append-add, take-add, length-take-le}
+use lib.Seq.{take-append-seam, take-at, length-take-le}
 use Rattle.refusal.specs.Numbers.{none}
-use Rattle.refusal.specs.First.{accepted}
-use Rattle.leb128.specs.Numbers.{groups, found}
-use Rattle.leb128.specs.Encoding.{encoded}
-use Rattle.leb128.specs.Decoding.{decoded}
-use Rattle.leb128.specs.RoundTrip as numbers
-use Rattle.splice.specs.Splice.{spliced}
+use Rattle.refusal.specs.First.{firstOf, accepted}
 use Rattle.cases.proofs.Cases.{split, and-both}
-use Rattle.leb128.proofs.RoundTrip as laws
+use Rattle.splice.specs.Splice.{spliced}
+use Rattle.leb128.specs.declared.Number.{Number}
+use Rattle.leb128.specs.Numbers.{groups, largest, base}
+use Rattle.leb128.specs.Encoding.{encoded, padded}
+use Rattle.leb128.specs.Decoding.{decoded}
+use Rattle.leb128.specs.Series as series
+use Rattle.leb128.specs.SeriesRoundTrip.{SeriesRoundTrip}
+use Rattle.leb128.proofs.Groups.{encoded-more, decoded-none, decoded-last, decoded-more, parts}
+use Rattle.leb128.proofs.RoundTrip as numbers
+use Rattle.leb128.proofs.Series.{both-accepted, series-round-trip}
 use Rattle.request.specs.declared.Request.{Request}
-use Rattle.request.specs.declared.Parsed.{Parsed}
-use Rattle.request.specs.Requests.{request, requestBytes, writable}
-use Rattle.request.specs.Reading.{fieldRead, channelRead, valueRead, readRefusal, parsed}
+use Rattle.request.specs.Requests.{mostValues, valueCount, numbersOf, request, requestOf, requestBytes, writable}
+use Rattle.request.specs.Reading.{numbersIn, numbersRead, readRefusal, refused, parsed}
 use Rattle.request.specs.Writing.{writeRefusal, written}
-use Rattle.request.specs.RoundTrip.{ReadsBack, WritesBack, Counted, RoundTrip}
-use Rattle.request.proofs.Reading.{no-field, no-channel, no-value, all-three, within-value}
-use Rattle.request.proofs.Writing.{Small, small, fits}
+use Rattle.request.specs.RoundTrip.{Counted, Readable, ReadsBack, WritesBack, RoundTrip}
+use Rattle.request.proofs.Padding.{zeros, padded-least}
+use Rattle.request.proofs.Reading.{few-values}
+use Rattle.request.proofs.Writing.{fits}
 
-law : numbers.RoundTrip groups
-law = laws.round-trip groups (omega arith)
+law : SeriesRoundTrip groups
+law = series-round-trip groups (omega arith)
+
+-- a number that was read takes no more bytes than it is written as
+module _ (b : ℕ) (bytes : List ℕ) where
+  one-group : b < base → decoded groups (b ∷ bytes) .used ≤ length (encoded groups (decoded groups (b ∷ bytes) .value))
+  one-group h = rw (decoded-last 1 (b ∷ bytes) (omega arith) h) (numbers.round-trip groups (omega arith) .sized b .some)
+
+  two-groups : base ≤ b → decoded groups (b ∷ bytes) .refusal ≡ none → decoded groups (b ∷ bytes) .used ≤ length (encoded groups (decoded groups (b ∷ bytes) .value))
+  two-groups h e =
+      let m = decoded-more 1 (b ∷ bytes) (omega arith) h in
+      let p = parts (b - base) (decoded 1 bytes) (rw m at e) in
+      let n = b - base + base * decoded 1 bytes .value in
+      let t = numbers.round-trip 1 (omega arith) .sized (n / base) .some in
+      let u = numbers.round-trip 1 (omega arith) .counted bytes .most in
+      rw (m, eq-eqb (decoded 1 bytes .refusal) none (p .0), ne-eqb (decoded 1 bytes .value) 0 (λ z. omega arith), encoded-more 1 n (omega arith)) (omega arith)
+
+first-used : (bytes : List ℕ) → decoded groups bytes .refusal ≡ none → decoded groups bytes .used ≤ length (encoded groups (decoded groups bytes .value))
+first-used [] e = rw (decoded-none 1 [] refl) (omega arith)
+first-used (b ∷ bytes) e = split (ltb b base) (λ a. one-group b bytes (ltb-true b base a)) (λ a. two-groups b bytes (ltb-false b base a) e)
+
+-- the numbers that are read are the field, the channel, and as many values as the field has; the bytes are the field's and those of the others
+record Numbered (bytes : List ℕ) : Type 0 where
+  channel : ℕ
+  values : List ℕ
+  many : length values ≡ valueCount (decoded groups bytes .value)
+  all : numbersRead bytes .numbers ≡ decoded groups bytes .value ∷ channel ∷ values
+  first : readRefusal bytes ≡ none → decoded groups bytes .refusal ≡ none
+  most : numbersRead bytes .used ≤ decoded groups bytes .used + (1 + valueCount (decoded groups bytes .value)) * groups
+
+numbered : (bytes : List ℕ) → Numbered bytes
+unfolding readRefusal numbersRead numbersIn series.series
+numbered bytes =
+    let number = decoded groups bytes in
+    let count = valueCount (number .value) in
+    let after = drop (number .used) bytes in
+    let values = drop (decoded groups after .used) after in
+    let e : numbersIn bytes ≡ suc (suc count) = omega arith in
+    let s : numbersRead bytes ≡ series.series groups (suc (suc count)) bytes = ap (λ (k : ℕ). series.series groups k bytes) e in
+    record {
+      channel = decoded groups after .value;
+      values = series.series groups count values .numbers;
+      many = law .many count values;
+      all = rw s;
+      first = λ z. both-accepted number (series.series groups (suc count) after) (ap (λ (found : series.Series). firstOf (found .refusals)) (sym s) ∙ z) .0;
+      most = rw s (omega (arith, law .counted (suc count) after .most));
+    }
+
+field-is : (bytes : List ℕ) → requestOf (numbersRead bytes .numbers) .field ≡ decoded groups bytes .value
+unfolding requestOf
+field-is bytes = rw (numbered bytes .all)
+
+-- the numbers of the request that they are
+numbers-back : (bytes : List ℕ) → numbersOf (requestOf (numbersRead bytes .numbers)) ≡ numbersRead bytes .numbers
+unfolding numbersOf requestOf padded
+numbers-back bytes = let n = numbered bytes in rw (n .all, take-at (n .values) (zeros (mostValues - length (n .values))) (valueCount (decoded groups bytes .value)) (n .many))
+
+read-whole : (bytes : List ℕ) → readRefusal bytes ≡ none → parsed bytes ≡ record { refusal = none; request = requestOf (numbersRead bytes .numbers); used = numbersRead bytes .used }
+unfolding parsed
+read-whole bytes e = rw (eq-eqb (readRefusal bytes) none e)
+
+refused-whole : (bytes : List ℕ) → accepted (readRefusal bytes) ≡ false → parsed bytes ≡ refused (readRefusal bytes)
+unfolding parsed
+refused-whole bytes a = rw a
+
+counted-read : (bytes : List ℕ) → readRefusal bytes ≡ none → Counted bytes (parsed bytes)
+unfolding readRefusal numbersRead numbersIn
+counted-read bytes e =
+    let n = numbered bytes in
+    let c = law .counted (numbersIn bytes) bytes in
+    rw (read-whole bytes e, field-is bytes)
+    (record {
+      least = λ z. c .least e;
+      most = omega (arith, n .most, first-used bytes (n .first e));
+      within = c .within;
+      nothing = λ z. absurd (z refl);
+    })
+
+counted : (bytes : List ℕ) → Counted bytes (parsed bytes)
+counted bytes =
+    split (accepted (readRefusal bytes))
+    (λ a. counted-read bytes (eqb-true (readRefusal bytes) none a))
+    (λ a.
+    rw (refused-whole bytes a)
+    (record { least = λ z. absurd (eqb-false (readRefusal bytes) none a z); most = omega arith; within = omega arith; nothing = λ z. refl }))
+
+nothing-readable : Readable (request 0 0 [])
+unfolding requestOf numbersOf padded
+nothing-readable = refl
+
+readable : (bytes : List ℕ) → Readable (parsed bytes .request)
+readable bytes =
+    split (accepted (readRefusal bytes))
+    (λ a. rw (read-whole bytes (eqb-true (readRefusal bytes) none a), numbers-back bytes))
+    (λ a. rw (refused-whole bytes a) nothing-readable)
 
 -- the request's own bytes are read as it
-read-bytes : (r : Request) (rest : List ℕ) → Small r → parsed (requestBytes r ++ rest) ≡ record { refusal = none; request = r; used = length (requestBytes r) }
-unfolding requestBytes
-read-bytes r rest s =
-    let f = encoded groups (r .field) in
-    let c = encoded groups (r .channel) in
-    let v = encoded groups (r .value) in
-    let l = f ++ (c ++ (v ++ rest)) in
-    let e : requestBytes r ++ rest ≡ l = simp append-assoc in
-    let n : length (requestBytes r) ≡ length f + length c + length v = simp length-append in
-    let field = sym (law .readsBack (r .field) (c ++ (v ++ rest)) (s .field)) in
-    let channel : found (r .channel) (length c) ≡ decoded groups (drop (length f) l) = rw drop-append-seam (sym (law .readsBack (r .channel) (v ++ rest) (s .channel))) in
-    let value : found (r .value) (length v) ≡ decoded groups (drop (length f + length c) l) = rw (drop-append-add, drop-append-seam) (sym (law .readsBack (r .value) rest (s .value))) in
-    rw (e, n) (sym (all-three l (found (r .field) (length f)) field (found (r .channel) (length c)) channel (found (r .value) (length v)) value refl refl refl))
+module _ (r : Request) (rest : List ℕ) (can : Readable r) (small : writable r ≡ true) where
+  first-is : decoded groups (requestBytes r ++ rest) .value ≡ r .field
+  unfolding requestBytes numbersOf series.seriesBytes writable series.writable
+  first-is =
+      let b = and-both (leb (r .field) (largest groups)) _ small in
+      rw append-assoc (ap (λ (n : Number). n .value) (numbers.round-trip groups (omega arith) .readsBack (r .field) _ (leb-true _ _ (b .0))))
+
+  count-is : numbersIn (requestBytes r ++ rest) ≡ length (numbersOf r)
+  unfolding numbersIn numbersOf requestOf
+  count-is =
+      let f = few-values (r .field) in
+      let v = padded-least mostValues (take (valueCount (r .field)) (r .values)) in
+      let l = ap (λ (q : Request). length (q .values)) can in
+      rw first-is (omega (arith, length-take-le (valueCount (r .field)) (r .values) (omega arith)))
+
+  read-bytes : parsed (requestBytes r ++ rest) ≡ record { refusal = none; request = r; used = length (requestBytes r) }
+  unfolding readRefusal numbersRead requestBytes writable
+  read-bytes =
+      let bytes = requestBytes r ++ rest in
+      let b = law .readsBack (numbersOf r) rest small in
+      let s : numbersRead bytes ≡ series.series groups (length (numbersOf r)) bytes = ap (λ (k : ℕ). series.series groups k bytes) count-is in
+      read-whole bytes (ap (λ (found : series.Series). firstOf (found .refusals)) s ∙ b .accepted) ∙ rw (s, b .same, b .count, can)
 
 -- a writer's answer that is no refusal: nothing too large, and room enough
 can-write : (r : Request) (buffer : List ℕ) → written r buffer .refusal ≡ none → (writable r ≡ true) × (length (requestBytes r) ≤ length buffer)
@@ -53,69 +159,28 @@ can-write r buffer e =
     (λ w. split (ltb (length buffer) (length (requestBytes r))) (λ t. let z : _≡_ {A = ℕ} 9 0 = rw (w, t) at e in absurd (omega arith)) (λ t. (w, ltb-false _ _ t)))
     (λ w. let z : _≡_ {A = ℕ} 7 0 = rw w at e in absurd (omega arith))
 
-reads-back : (r : Request) (buffer rest : List ℕ) → written r buffer .refusal ≡ none → ReadsBack r buffer rest
-reads-back r buffer rest e =
+reads-back : (r : Request) (buffer rest : List ℕ) → Readable r → written r buffer .refusal ≡ none → ReadsBack r buffer rest
+reads-back r buffer rest can e =
     let w = can-write r buffer e in
     let a = fits r buffer (w .0) (w .1) in
-    rw (← a .0, ← a .1, take-append-seam) (read-bytes r rest (small r (w .0)))
-
-bytes-drop : (n : ℕ) (l : List ℕ) → areBytes l ≡ true → areBytes (drop n l) ≡ true
-bytes-drop zero l e = e
-bytes-drop (suc n) [] e = refl
-bytes-drop (suc n) (b ∷ l) e = bytes-drop n l (and-both (ltb b 256) (areBytes l) e .1)
-
-decide : (n : ℕ) → ((n ≡ none → ⊥) → n ≡ none) → n ≡ none
-decide n k = split (eqb n none) (λ a. eqb-true n none a) (λ a. k (eqb-false n none a))
-
--- a request that was read: so were its numbers
-record Accepted (bytes : List ℕ) : Type 0 where
-  field : fieldRead bytes .refusal ≡ none
-  channel : channelRead bytes .refusal ≡ none
-  value : valueRead bytes .refusal ≡ none
-
-each : (bytes : List ℕ) → parsed bytes .refusal ≡ none → Accepted bytes
-each bytes e =
-    let is : (p : Parsed) → p ≡ parsed bytes → p .refusal ≡ none = λ p h. ap (λ (x : Parsed). x .refusal) h ∙ e in
-    let f = decide (fieldRead bytes .refusal) (λ h. is _ (no-field bytes (fieldRead bytes) refl h)) in
-    let c = decide (channelRead bytes .refusal) (λ h. is _ (no-channel bytes (fieldRead bytes) refl (channelRead bytes) refl f h)) in
-    let v = decide (valueRead bytes .refusal) (λ h. is _ (no-value bytes (fieldRead bytes) refl (channelRead bytes) refl (valueRead bytes) refl f c h)) in
-    record { field = f; channel = c; value = v }
-
-whole : (bytes : List ℕ) → Accepted bytes → parsed bytes ≡ record { refusal = none; request = request (fieldRead bytes .value) (channelRead bytes .value) (valueRead bytes .value); used = fieldRead bytes .used + channelRead bytes .used + valueRead bytes .used }
-whole bytes a = sym (all-three bytes (fieldRead bytes) refl (channelRead bytes) refl (valueRead bytes) refl (a .field) (a .channel) (a .value))
-
-counted : (bytes : List ℕ) → Counted bytes (parsed bytes)
-unfolding parsed
-counted bytes =
-    let f = law .counted bytes in
-    let c = law .counted (drop (fieldRead bytes .used) bytes) in
-    let v = law .counted (drop (fieldRead bytes .used + channelRead bytes .used) bytes) in
-    split (accepted (readRefusal bytes))
-    (λ a.
-    let e : parsed bytes .refusal ≡ none = rw a in
-    let g = each bytes e in
-    rw a
-    (record {
-      least = λ z. omega (arith, f .some (g .field), c .some (g .channel), v .some (g .value));
-      most = omega (arith, f .most, c .most, v .most);
-      within = within-value bytes (fieldRead bytes) refl (channelRead bytes) refl (valueRead bytes) refl;
-    }))
-    (λ a. rw a (record { least = λ z. absurd (eqb-false (readRefusal bytes) none a z); most = omega arith; within = omega arith }))
+    rw (← a .0, ← a .1, take-append-seam) (read-bytes r rest can (w .0))
 
 -- a request that was read may be written, as the bytes it came from
-writable-read : (bytes : List ℕ) → areBytes bytes ≡ true → Accepted bytes → (writable (parsed bytes .request) ≡ true) × (requestBytes (parsed bytes .request) ≡ take (parsed bytes .used) bytes)
-unfolding requestBytes writable
-writable-read bytes ok a =
-    let one = fieldRead bytes .used in
-    let two = one + channelRead bytes .used in
-    let f = law .writesBack bytes ok (a .field) in
-    let c = law .writesBack (drop one bytes) (bytes-drop one bytes ok) (a .channel) in
-    let v = law .writesBack (drop two bytes) (bytes-drop two bytes ok) (a .value) in
-    rw (whole bytes a) (rw (le-leb _ _ (f .small), le-leb _ _ (c .small), le-leb _ _ (v .small)), rw (take-add, take-add, f .same, c .same, v .same))
+writable-read : (bytes : List ℕ) → areBytes bytes ≡ true → readRefusal bytes ≡ none → (writable (parsed bytes .request) ≡ true) × (requestBytes (parsed bytes .request) ≡ take (parsed bytes .used) bytes)
+unfolding requestBytes writable readRefusal numbersRead
+writable-read bytes ok e =
+    let w = law .writesBack (numbersIn bytes) bytes ok e in
+    rw (read-whole bytes e, numbers-back bytes) (w .small, w .same)
+
+answer-none : (bytes : List ℕ) → parsed bytes .refusal ≡ none → readRefusal bytes ≡ none
+answer-none bytes e =
+    split (accepted (readRefusal bytes))
+    (λ a. eqb-true (readRefusal bytes) none a)
+    (λ a. rw (refused-whole bytes a) at e)
 
 writes-back : (bytes buffer : List ℕ) → areBytes bytes ≡ true → parsed bytes .refusal ≡ none → parsed bytes .used ≤ length buffer → WritesBack bytes buffer (parsed bytes)
 writes-back bytes buffer ok e room =
-    let b = writable-read bytes ok (each bytes e) in
+    let b = writable-read bytes ok (answer-none bytes e) in
     let n : length (requestBytes (parsed bytes .request)) ≡ parsed bytes .used = rw (b .1) (length-take-le _ _ (counted bytes .within)) in
     let a = fits (parsed bytes .request) buffer (b .0) (omega arith) in
     record {
@@ -124,4 +189,4 @@ writes-back bytes buffer ok e room =
     }
 
 pub round-trip : RoundTrip
-round-trip = record { counted = counted; readsBack = reads-back; writesBack = writes-back }
+round-trip = record { counted = counted; readable = readable; readsBack = reads-back; writesBack = writes-back }

@@ -1,51 +1,47 @@
--- The request that bytes start with. Whether its field, channel and value make sense is not judged here.
-use mathlib.Core.Bool.{Bool, cond, not}
-use mathlib.Core.List.{List, [], _∷_}
-use Prim.Native.Nat.{ℕ, _+_}
-use lib.ListN.{drop}
+-- The request that bytes start with. Whether its field, channel and values make sense is not judged here.
+use mathlib.Core.Bool.{Bool, cond}
+use mathlib.Core.List.{List, []}
+use Prim.Native.Nat.{ℕ}
 use Rattle.refusal.specs.Numbers.{none}
 use Rattle.refusal.specs.First.{firstOf, accepted}
-use Rattle.leb128.specs.declared.Number.{Number}
 use Rattle.leb128.specs.Numbers.{groups}
+use Rattle.leb128.specs.Encoding.{padded}
 use Rattle.leb128.specs.Decoding.{decoded}
+use Rattle.leb128.specs.Series.{Series, series}
+use Rattle.request.specs.declared.Numbers.{Numbers}
 use Rattle.request.specs.declared.Parsed.{Parsed}
-use Rattle.request.specs.Requests.{request}
+use Rattle.request.specs.Requests.{mostNumbers, valueCount, numbersWith, request, requestOf}
 
--- gives the field's number, at the start
-abbrev pub fieldRead : List ℕ → Number
-fieldRead bytes = decoded groups bytes
+-- gives how many numbers are to be read: the field says it, whatever the channel
+unfoldable pub numbersIn : List ℕ → ℕ
+numbersIn bytes = numbersWith (valueCount (decoded groups bytes .value))
 
--- gives the channel's number, after the field
-abbrev pub channelRead : List ℕ → Number
-channelRead bytes = decoded groups (drop (fieldRead bytes .used) bytes)
-
--- gives the value's number, after the channel
-abbrev pub valueRead : List ℕ → Number
-valueRead bytes = decoded groups (drop (fieldRead bytes .used + channelRead bytes .used) bytes)
-
--- the number is refused, and by what
-abbrev pub refusalOf : Number → Bool × ℕ
-refusalOf number = (not (accepted (number .refusal)), number .refusal)
+-- gives the numbers as they are read
+unfoldable pub numbersRead : List ℕ → Series
+numbersRead bytes = series groups (numbersIn bytes) bytes
 
 -- the refusals of a request's bytes, from left to right
 abbrev pub readRefusals : List ℕ → List (Bool × ℕ)
-readRefusals bytes = refusalOf (fieldRead bytes) ∷ refusalOf (channelRead bytes) ∷ refusalOf (valueRead bytes) ∷ []
+readRefusals bytes = numbersRead bytes .refusals
 
 -- gives the refusal of the first number that has one, or 0
 unfoldable pub readRefusal : List ℕ → ℕ
 readRefusal bytes = firstOf (readRefusals bytes)
 
+-- gives so many numbers as they are read, in an array for the most, 0 past them; or the refusal of the first that has one, all else 0
+unfoldable pub seriesRead : ℕ → List ℕ → Numbers
+seriesRead count bytes =
+    cond (accepted (firstOf (series groups count bytes .refusals)))
+    (record { refusal = none; numbers = padded mostNumbers (series groups count bytes .numbers); used = series groups count bytes .used })
+    (record { refusal = firstOf (series groups count bytes .refusals); numbers = padded mostNumbers []; used = 0 })
+
 -- gives the answer of a refusal: all else is 0
 abbrev pub refused : ℕ → Parsed
-refused number = record { refusal = number; request = request 0 0 0; used = 0 }
+refused number = record { refusal = number; request = request 0 0 []; used = 0 }
 
--- gives the request and the count of its bytes, or the refusal; bytes after the third number are not looked at
+-- gives the request and the count of its bytes, or the refusal; bytes after its last number are not looked at
 unfoldable pub parsed : List ℕ → Parsed
 parsed bytes =
     cond (accepted (readRefusal bytes))
-    (record {
-      refusal = none;
-      request = request (fieldRead bytes .value) (channelRead bytes .value) (valueRead bytes .value);
-      used = fieldRead bytes .used + channelRead bytes .used + valueRead bytes .used;
-    })
+    (record { refusal = none; request = requestOf (numbersRead bytes .numbers); used = numbersRead bytes .used })
     (refused (readRefusal bytes))

@@ -4,7 +4,7 @@
 
 use std::ops::Range;
 
-use harness::{Bench, Converter, Direction, Phase, Transfer};
+use harness::{Bench, Converter, Direction, Phase, Request, Transfer};
 use rimevelvet::State;
 
 /// The proved library behind its safe wrappers.
@@ -86,6 +86,20 @@ fn flag(code: u8) -> bool {
     code == 1
 }
 
+/// The library's form of a request.
+pub fn lent(request: Request) -> rimevelvet::Request {
+    let Request {
+        field,
+        channel,
+        values,
+    } = request;
+    rimevelvet::Request {
+        field,
+        channel,
+        values,
+    }
+}
+
 impl Bench for Proved {
     fn power_up(&self, id: u8) -> (u8, Converter) {
         let a = rimevelvet::power_up(id);
@@ -127,19 +141,23 @@ impl Bench for Proved {
         rimevelvet::channel_range(flat(c), party, channel, frame)
     }
 
-    fn request_read(&self, bytes: &[u8]) -> (u8, u32, u32, u32, usize) {
+    fn request_read(&self, bytes: &[u8]) -> (u8, Request, usize) {
         let a = rimevelvet::request_read(bytes);
-        (a.refusal, a.field, a.channel, a.value, a.used)
+        let rimevelvet::Request {
+            field,
+            channel,
+            values,
+        } = a.request;
+        let request = Request {
+            field,
+            channel,
+            values,
+        };
+        (a.refusal, request, a.used)
     }
 
-    fn request_write(
-        &self,
-        field: u32,
-        channel: u32,
-        value: u32,
-        buffer: &mut [u8],
-    ) -> (u8, usize) {
-        let a = rimevelvet::request_write(field, channel, value, buffer);
+    fn request_write(&self, request: Request, buffer: &mut [u8]) -> (u8, usize) {
+        let a = rimevelvet::request_write(lent(request), buffer);
         (a.refusal, a.used)
     }
 
@@ -147,13 +165,11 @@ impl Bench for Proved {
         &self,
         c: Converter,
         party: u32,
-        field: u32,
-        channel: u32,
-        value: u32,
+        request: Request,
         tx: &mut [u8],
         at: usize,
     ) -> (u8, usize, Converter) {
-        let a = rimevelvet::plan(flat(c), party, field, channel, value, tx, at);
+        let a = rimevelvet::plan(flat(c), party, lent(request), tx, at);
         (a.refusal, a.length, whole(a.next))
     }
 

@@ -3,7 +3,7 @@
 use std::collections::VecDeque;
 
 use crate::random::Random;
-use crate::{cells, states, Bench, Converter, Phase};
+use crate::{cells, states, Bench, Converter, Phase, Request, WHOLE_CHANNEL};
 
 #[derive(Clone, Debug, PartialEq, Eq)]
 pub enum Call {
@@ -38,16 +38,12 @@ pub enum Call {
         bytes: Vec<u8>,
     },
     RequestWrite {
-        field: u32,
-        channel: u32,
-        value: u32,
+        request: Request,
         buffer: Vec<u8>,
     },
     Plan {
         party: u32,
-        field: u32,
-        channel: u32,
-        value: u32,
+        request: Request,
         tx: Vec<u8>,
         at: usize,
     },
@@ -74,23 +70,32 @@ impl Call {
     }
 }
 
+/// As many numbers as the longest answer has: a request and its bytes used.
+pub const NUMBERS: usize = 12;
+
 /// Everything a call left behind.
 #[derive(Clone, Debug, PartialEq, Eq)]
 pub struct Outcome {
     /// `None` for entry points that answer without a number.
     pub refusal: Option<u8>,
     /// The other numbers of the answer, in the order of `Bench`, then zeros.
-    pub numbers: [i64; 4],
+    pub numbers: [i64; NUMBERS],
     /// The lent buffer afterwards, or the program's output.
     pub buffer: Vec<u8>,
     pub state: Converter,
+}
+
+/// Numbers of an answer, then zeros.
+fn filled(numbers: impl IntoIterator<Item = i64>) -> [i64; NUMBERS] {
+    let mut numbers = numbers.into_iter();
+    std::array::from_fn(|_| numbers.next().unwrap_or(0))
 }
 
 /// Makes the call on a copy of its buffer.
 pub fn perform(bench: &impl Bench, c: Converter, call: &Call) -> Outcome {
     let mut outcome = Outcome {
         refusal: None,
-        numbers: [0; 4],
+        numbers: [0; NUMBERS],
         buffer: Vec::new(),
         state: c,
     };
@@ -132,7 +137,7 @@ pub fn perform(bench: &impl Bench, c: Converter, call: &Call) -> Outcome {
         } => {
             let (refusal, code, p, n) = bench.read_channel(c, *party, *channel, frame);
             outcome.refusal = Some(refusal);
-            outcome.numbers = [i64::from(code), i64::from(p), i64::from(n), 0];
+            outcome.numbers = filled([i64::from(code), i64::from(p), i64::from(n)]);
         }
         Call::ChannelBytes {
             party,
@@ -140,48 +145,30 @@ pub fn perform(bench: &impl Bench, c: Converter, call: &Call) -> Outcome {
             frame,
         } => {
             let part = bench.channel_bytes(c, *party, *channel, frame);
-            outcome.numbers = [part.start as i64, part.end as i64, 0, 0];
+            outcome.numbers = filled([part.start as i64, part.end as i64]);
         }
         Call::RequestRead { bytes } => {
-            let (refusal, field, channel, value, used) = bench.request_read(bytes);
+            let (refusal, request, used) = bench.request_read(bytes);
             outcome.refusal = Some(refusal);
-            outcome.numbers = [
-                i64::from(field),
-                i64::from(channel),
-                i64::from(value),
-                used as i64,
-            ];
+            let named = [request.field, request.channel];
+            let read = named.into_iter().chain(request.values).map(i64::from);
+            outcome.numbers = filled(read.chain([used as i64]));
         }
-        Call::RequestWrite {
-            field,
-            channel,
-            value,
-            buffer,
-        } => {
+        Call::RequestWrite { request, buffer } => {
             outcome.buffer.clone_from(buffer);
-            let (refusal, used) =
-                bench.request_write(*field, *channel, *value, &mut outcome.buffer);
+            let (refusal, used) = bench.request_write(*request, &mut outcome.buffer);
             outcome.refusal = Some(refusal);
             outcome.numbers[0] = used as i64;
         }
         Call::Plan {
             party,
-            field,
-            channel,
-            value,
+            request,
             tx,
             at,
         } => {
             outcome.buffer.clone_from(tx);
-            let (refusal, length, state) = bench.plan(
-                c,
-                *party,
-                *field,
-                *channel,
-                *value,
-                &mut outcome.buffer,
-                *at,
-            );
+            let (refusal, length, state) =
+                bench.plan(c, *party, *request, &mut outcome.buffer, *at);
             outcome.refusal = Some(refusal);
             outcome.numbers[0] = length as i64;
             outcome.state = state;
@@ -347,40 +334,113 @@ fn reading(random: &mut Random, c: &Converter) -> Call {
     }
 }
 
-/// Field, channel and value of a request, mostly sensible.
-pub fn setting(random: &mut Random) -> (u32, u32, u32) {
-    let field = match random.below(20) {
-        0..=7 => random.between(1, 9),
-        8..=10 => random.between(5, 9),
-        11..=16 => random.between(10, 26),
-        17 => random.pick(&[2, 12, 15]),
-        _ => random.edge(1, 26) as usize,
-    } as u32;
+/// A field number, mostly one that names something.
+fn field_number(random: &mut Random) -> u32 {
+    match random.below(25) {
+        0..=7 => random.between(1, 9) as u32,
+        8..=10 => random.between(5, 9) as u32,
+        11..=15 => random.between(10, 26) as u32,
+        16 => random.pick(&[2, 12, 15]),
+        17..=21 => WHOLE_CHANNEL,
+        // Near a whole channel's, or that only once cut to fewer bits.
+        22 => random.pick(&[
+            27,
+            28,
+            29,
+            31,
+            32,
+            30 + 0x100,
+            30 + 0x1_0000,
+            30 | 0x8000_0000,
+        ]),
+        _ => random.edge(1, 26),
+    }
+}
+
+/// A channel number, mostly one that goes with the field.
+fn channel_for(random: &mut Random, field: u32) -> u32 {
     let fitting = match field {
-        1..=9 => random.between(1, 8) as u32,
+        1..=9 | WHOLE_CHANNEL => random.between(1, 8) as u32,
         _ => 0,
     };
-    let channel = match random.below(20) {
+    match random.below(20) {
         0..=16 => fitting,
         17 => fitting + 0x100,
         _ => random.edge(1, 8),
-    };
+    }
+}
+
+/// A value for a field, mostly one that fits.
+fn value_for(random: &mut Random, field: u32, channel: u32) -> u32 {
     let width = cells::find(field, channel).map_or(1, |cell| cell.width);
-    let value = match random.below(20) {
-        0..=12 => random.below(1 << width),
+    match random.below(20) {
+        0..=12 => random.below(1 << width) as u32,
         13..=14 => (1 << width) - 1,
         15..=16 => 1 << width,
-        17 => random.below(10),
-        _ => random.edge(0, 7) as usize,
-    } as u32;
-    (field, channel, value)
+        17 => random.below(10) as u32,
+        _ => random.edge(0, 7),
+    }
+}
+
+/// A value that a channel's field refuses.
+fn refused_value(random: &mut Random, field: u32) -> u32 {
+    let bound = cells::find(field, 1).map_or(2, |cell| 1 << cell.width);
+    let edges = [bound, bound + 1, 0x100, 0x101, 16_383, 16_384, 0x1_0000];
+    match random.below(10) {
+        0..=2 if field == 2 => 7,
+        0..=8 => random.pick(&edges),
+        _ => u32::MAX - random.below(3) as u32,
+    }
+}
+
+/// Values for a channel's fields 1 to 9: all legal, or one or two refused.
+pub fn channel_values(random: &mut Random) -> [u32; 9] {
+    let mut values = std::array::from_fn(|index| {
+        let width = cells::find(index as u32 + 1, 1).map_or(1, |cell| cell.width);
+        let legal = if index == 1 { 7 } else { 1 << width };
+        random.below(legal) as u32
+    });
+    if random.chance(30) {
+        for _ in 0..random.between(1, 2) {
+            // Gain, and the last two, more often.
+            let index = random.edge_or(&[1, 7, 8], 0, 8);
+            values[index] = refused_value(random, index as u32 + 1);
+        }
+    }
+    values
+}
+
+/// One field's values, behind the first anything: nobody may look there.
+fn values_for(random: &mut Random, field: u32, channel: u32) -> [u32; 9] {
+    let mut values = [0; 9];
+    if random.flag() {
+        values.fill_with(|| random.pick(&[0, 1, 2, 7, 8, 300, 16_383, 16_384, u32::MAX]));
+    }
+    values[0] = value_for(random, field, channel);
+    values
+}
+
+/// A request, mostly sensible.
+pub fn request(random: &mut Random) -> Request {
+    let field = field_number(random);
+    let channel = channel_for(random, field);
+    let values = match field {
+        WHOLE_CHANNEL => channel_values(random),
+        _ => values_for(random, field, channel),
+    };
+    Request {
+        field,
+        channel,
+        values,
+    }
 }
 
 fn place(random: &mut Random, length: usize) -> usize {
     match random.below(20) {
         0..=9 => 0,
         10..=12 => random.between(0, length),
-        13..=16 => length.saturating_sub(random.between(2, 8)),
+        // Rooms around every length that a plan can have.
+        13..=16 => length.saturating_sub(random.between(2, 15)),
         17 => length + random.below(3),
         18 => usize::MAX - random.below(10),
         // Fits only if the place is cut to 32 bits.
@@ -389,19 +449,17 @@ fn place(random: &mut Random, length: usize) -> usize {
 }
 
 fn plan(random: &mut Random, c: &Converter) -> Call {
-    let (field, channel, value) = setting(random);
-    let party = party_for(random, c, channel);
-    let length = if random.chance(15) {
-        random.below(8)
+    let request = request(random);
+    let party = party_for(random, c, request.channel);
+    let length = if random.chance(20) {
+        random.below(16)
     } else {
-        random.between(7, 24)
+        random.between(14, 30)
     };
     let at = place(random, length);
     Call::Plan {
         party,
-        field,
-        channel,
-        value,
+        request,
         tx: random.bytes(length),
         at,
     }
@@ -428,36 +486,65 @@ fn wire_number(random: &mut Random) -> u32 {
     }
 }
 
-fn request_bytes(random: &mut Random) -> Vec<u8> {
+/// Numbers on the wire, each broken now and then.
+fn wire_bytes(random: &mut Random, count: usize, broken: usize) -> Vec<u8> {
+    let small = random.chance(20);
     let mut bytes = Vec::new();
-    for _ in 0..3 {
-        let number = if random.chance(6) {
+    for _ in 0..count {
+        let number = if random.chance(broken) {
             None
+        } else if small {
+            Some(random.below(128) as u32)
         } else {
             Some(wire_number(random))
         };
         bytes.extend(number_bytes(random, number));
     }
+    bytes
+}
+
+fn request_bytes(random: &mut Random) -> Vec<u8> {
+    let mut bytes = Vec::new();
+    if random.chance(40) {
+        // In its shortest form this field is one byte.
+        bytes.push(WHOLE_CHANNEL as u8);
+        bytes.extend(wire_bytes(random, 10, 2));
+    } else {
+        bytes.extend(wire_bytes(random, 3, 6));
+    }
     match random.below(4) {
         0 => bytes.truncate(random.between(0, bytes.len())),
         1 => bytes.extend(random.bytes(3)),
-        2 => return random.bytes(bytes.len()),
+        2 if random.flag() => return random.bytes(bytes.len()),
         _ => {}
     }
     bytes
 }
 
 fn request_write(random: &mut Random) -> Call {
-    let mut number = || match random.below(12) {
-        0 => random.pick(&[16_384, 16_385, 65_536, 0x0100_0003, u32::MAX]),
-        _ => wire_number(random),
+    let whole = random.chance(40);
+    let mut numbers: [u32; 11] = std::array::from_fn(|_| wire_number(random));
+    if whole {
+        numbers[0] = WHOLE_CHANNEL;
+    }
+    if random.chance(30) {
+        // Behind the third number it matters in a whole channel's request alone.
+        let index = if random.flag() { 3 } else { 11 };
+        numbers[random.below(index)] =
+            random.pick(&[16_384, 16_385, 65_536, 0x0100_0003, u32::MAX]);
+    }
+    let [field, channel, values @ ..] = numbers;
+    let length = if whole {
+        random.edge_or(&[10, 11, 20, 21, 22], 12, 24)
+    } else {
+        random.between(0, 8)
     };
-    let (field, channel, value) = (number(), number(), number());
-    let length = random.between(0, 8);
     Call::RequestWrite {
-        field,
-        channel,
-        value,
+        request: Request {
+            field,
+            channel,
+            values,
+        },
         buffer: random.bytes(length),
     }
 }
@@ -470,8 +557,9 @@ fn console_input(random: &mut Random, length: usize, exact: bool) -> Vec<u8> {
         _ => random.byte(),
     }];
     while input.len() < length {
-        let (field, channel, value) = setting(random);
-        for number in [field, channel, value] {
+        let mut request = request(random);
+        request.field &= 0x3FFF;
+        for number in request.numbers() {
             input.extend(number_bytes(random, Some(number & 0x3FFF)));
         }
     }

@@ -1,5 +1,7 @@
 //! The settings once more, as one flat table of the harness's own.
 
+use crate::Request;
+
 /// One setting of one channel (channel 0 for shared settings).
 #[derive(Clone, Copy, Debug, PartialEq, Eq)]
 pub struct Cell {
@@ -37,6 +39,9 @@ const IN_CHANNEL_REGISTER: [(u32, u32, u32); 4] = [(1, 7, 7), (2, 6, 4), (3, 3, 
 /// Field and register of the settings with one bit for each channel.
 const BIT_PER_CHANNEL: [(u32, usize); 5] = [(5, 0x0D), (6, 0x0E), (7, 0x0F), (8, 0x10), (9, 0x11)];
 
+/// The field number that names fields 1 to 9 of a channel together.
+const WHOLE: u32 = 30;
+
 /// Values of the right width that are refused all the same.
 const BARRED: [(u32, u32); 3] = [(2, 7), (12, 7), (15, 2)];
 
@@ -63,6 +68,32 @@ pub fn find(field: u32, channel: u32) -> Option<Cell> {
         }
         _ => None,
     }
+}
+
+/// Whether a field number names anything with some channel.
+pub fn is_known(field: u32) -> bool {
+    matches!(field, 1..=26 | WHOLE)
+}
+
+/// The settings a request names, each with its value; none where field and
+/// channel do not go together.
+pub fn named(request: &Request) -> Vec<(Cell, u32)> {
+    let Request {
+        field,
+        channel,
+        values,
+    } = *request;
+    let fields = if field == WHOLE { 1..=9 } else { field..=field };
+    fields
+        .zip(values)
+        .filter_map(|(field, value)| Some((find(field, channel)?, value)))
+        .collect()
+}
+
+/// Whether every value a request names a setting for is legal there.
+pub fn admitted(request: &Request) -> bool {
+    let named = named(request);
+    named.iter().all(|(cell, value)| cell.admits(*value))
 }
 
 /// All settings.

@@ -1,8 +1,15 @@
-//! Fixed figures: document 01's own (rows `fig`) and the checks drawn from
-//! it rule by rule (rows named after the rule). Each panics on a mismatch.
+//! Fixed figures: document 01's own (rows `fig`), the checks drawn from it
+//! rule by rule (rows named after the rule), and those of document 02's No. 1
+//! (rows `no1`). Each panics on a mismatch.
 
 use crate::cells;
-use crate::{Bench, Converter, Direction, Phase, Transfer};
+use crate::{Bench, Converter, Direction, Phase, Request, Transfer};
+
+const NOTHING_READ: Request = Request {
+    field: 0,
+    channel: 0,
+    values: [0; 9],
+};
 
 const SOME_CODES: [i32; 8] = [8_388_607, -8_388_608, -1, 0, 1, -2, 65_536, -65_537];
 
@@ -37,15 +44,27 @@ fn take(bench: &impl Bench, c: Converter, codes: &[i32], p: u8, n: u8) -> Conver
     next
 }
 
-/// A plan into a buffer of exactly `room` bytes: number, plan, state.
+/// A plan for one field into a buffer of exactly `room` bytes: number, plan,
+/// state.
 fn plan(
     bench: &impl Bench,
     c: Converter,
     [party, field, channel, value]: [u32; 4],
     room: usize,
 ) -> (u8, Vec<u8>, Converter) {
+    plan_request(bench, c, party, Request::one(field, channel, value), room)
+}
+
+/// The same for any request.
+fn plan_request(
+    bench: &impl Bench,
+    c: Converter,
+    party: u32,
+    request: Request,
+    room: usize,
+) -> (u8, Vec<u8>, Converter) {
     let mut tx = vec![0xEE; room];
-    let (refusal, length, next) = bench.plan(c, party, field, channel, value, &mut tx, 0);
+    let (refusal, length, next) = bench.plan(c, party, request, &mut tx, 0);
     if refusal != 0 {
         assert_eq!(
             (length, &tx, next),
@@ -205,18 +224,21 @@ pub fn fig19_request_reading(bench: &impl Bench) {
     for (bytes, refusal) in rows {
         assert_eq!(
             bench.request_read(bytes),
-            (refusal, 0, 0, 0, 0),
+            (refusal, NOTHING_READ, 0),
             "{bytes:02x?}"
         );
     }
     assert_eq!(
         bench.request_read(&[0xAC, 0x02, 0x80, 0x01, 0xFF, 0x7F, 0x83]),
-        (0, 300, 128, 16_383, 6)
+        (0, Request::one(300, 128, 16_383), 6)
     );
-    assert_eq!(bench.request_read(&[1, 2, 3, 0x83, 0x00]), (0, 1, 2, 3, 3));
+    assert_eq!(
+        bench.request_read(&[1, 2, 3, 0x83, 0x00]),
+        (0, Request::one(1, 2, 3), 3)
+    );
     assert_eq!(
         bench.request_read(&[0, 127, 0x81, 0x01]),
-        (0, 0, 127, 129, 4)
+        (0, Request::one(0, 127, 129), 4)
     );
 }
 
@@ -858,6 +880,7 @@ pub fn pln4_no_further_refusals(bench: &impl Bench) {
 
 pub fn pln7_pln8_pln9_places(bench: &impl Bench) {
     let c = after(bench, fresh(bench), &[0x04]);
+    let gain = Request::one(2, 3, 4);
     let before: Vec<u8> = (0..12).map(|index| 0xA0 + index).collect();
     let beyond_u32 = usize::try_from(1u64 << 32).unwrap_or(usize::MAX);
     let places = (0..15).chain([
@@ -869,7 +892,7 @@ pub fn pln7_pln8_pln9_places(bench: &impl Bench) {
     ]);
     for at in places {
         let mut tx = before.clone();
-        let (refusal, length, next) = bench.plan(c, 0, 2, 3, 4, &mut tx, at);
+        let (refusal, length, next) = bench.plan(c, 0, gain, &mut tx, at);
         if at <= 5 {
             assert_eq!((refusal, length, next.registers[7]), (0, 7, 0x40));
             let mut expected = before.clone();
@@ -883,7 +906,7 @@ pub fn pln7_pln8_pln9_places(bench: &impl Bench) {
             );
         }
     }
-    assert_eq!(bench.plan(c, 0, 2, 3, 4, &mut [], 0), (9, 0, c));
+    assert_eq!(bench.plan(c, 0, gain, &mut [], 0), (9, 0, c));
 }
 
 pub fn pln10_pln13_state_after(bench: &impl Bench) {
@@ -907,20 +930,22 @@ pub fn pln10_pln13_state_after(bench: &impl Bench) {
 
 pub fn slw1_to_slw4_writer(bench: &impl Bench) {
     let mut buffer = [0xEE; 8];
-    assert_eq!(bench.request_write(300, 0, 16_383, &mut buffer), (0, 5));
+    let request = Request::one(300, 0, 16_383);
+    assert_eq!(bench.request_write(request, &mut buffer), (0, 5));
     assert_eq!(buffer, [0xAC, 0x02, 0x00, 0xFF, 0x7F, 0xEE, 0xEE, 0xEE]);
     let mut exact = [0xEE; 6];
-    assert_eq!(bench.request_write(128, 255, 256, &mut exact), (0, 6));
+    let request = Request::one(128, 255, 256);
+    assert_eq!(bench.request_write(request, &mut exact), (0, 6));
     assert_eq!(exact, [0x80, 0x01, 0xFF, 0x01, 0x80, 0x02]);
     for length in 0..6 {
         let mut short = vec![0xEE; length];
-        assert_eq!(bench.request_write(128, 255, 256, &mut short), (9, 0));
+        assert_eq!(bench.request_write(request, &mut short), (9, 0));
         assert_eq!(short, vec![0xEE; length]);
     }
-    for numbers in [[16_384, 0, 0], [0, 16_384, 0], [0, 0, u32::MAX]] {
+    for [field, channel, value] in [[16_384, 0, 0], [0, 16_384, 0], [0, 0, u32::MAX]] {
         for length in [0, 8] {
             let mut buffer = vec![0xEE; length];
-            let answer = bench.request_write(numbers[0], numbers[1], numbers[2], &mut buffer);
+            let answer = bench.request_write(Request::one(field, channel, value), &mut buffer);
             assert_eq!((answer, buffer), ((7, 0), vec![0xEE; length]));
         }
     }
@@ -929,13 +954,14 @@ pub fn slw1_to_slw4_writer(bench: &impl Bench) {
 pub fn slr3_slr5_round_trips(bench: &impl Bench) {
     for number in (0..=16_383).step_by(7).chain([127, 128, 16_383]) {
         let numbers = [number, 16_383 - number, number / 2];
+        let request = Request::one(numbers[0], numbers[1], numbers[2]);
         let mut buffer = [0; 6];
-        let (refusal, used) = bench.request_write(numbers[0], numbers[1], numbers[2], &mut buffer);
+        let (refusal, used) = bench.request_write(request, &mut buffer);
         let two_groups = numbers.iter().filter(|&&number| number > 127).count();
         assert_eq!((refusal, used), (0, 3 + two_groups));
-        let read = bench.request_read(&buffer);
-        assert_eq!(read, (0, numbers[0], numbers[1], numbers[2], used));
-        assert_eq!(bench.request_read(&buffer[..used - 1]), (1, 0, 0, 0, 0));
+        assert_eq!(bench.request_read(&buffer), (0, request, used));
+        let cut = bench.request_read(&buffer[..used - 1]);
+        assert_eq!(cut, (1, NOTHING_READ, 0));
     }
 }
 
@@ -1030,6 +1056,314 @@ pub fn prg5_input_limit(bench: &impl Bench) {
     );
 }
 
+// Document 02's No. 1: requests for a whole channel.
+
+/// Powered down, gain 4, SRB2, input 5; then bits 1, 0, 1, 0, 1.
+const CHANNEL_VALUES: [u32; 9] = [1, 4, 1, 5, 1, 0, 1, 0, 1];
+
+/// Registers 0Dh to 11h before, with neighbours' bits set.
+const RUN_BEFORE: [u8; 5] = [0x12, 0xFF, 0x00, 0x04, 0x80];
+
+/// What sets channel 3 to `CHANNEL_VALUES` on `RUN_BEFORE`.
+const CHANNEL_3_WRITES: [u8; 10] = [0x47, 0x00, 0xCD, 0x4D, 0x04, 0x16, 0xFB, 0x04, 0x00, 0x84];
+
+fn channel_3() -> Request {
+    Request::whole_channel(3, CHANNEL_VALUES)
+}
+
+/// Command mode, channel 3 party 1's, neighbours' bits set.
+fn shared_run(bench: &impl Bench) -> Converter {
+    let mut c = granted(bench, command_mode(bench), 1, 3);
+    c.registers[0x0D..=0x11].copy_from_slice(&RUN_BEFORE);
+    c
+}
+
+/// What is sent before and after the writes in each pair of modes.
+const AROUND: [(bool, bool, &[u8], &[u8]); 4] = [
+    (false, false, &[], &[]),
+    (true, false, &[0x02], &[0x04]),
+    (false, true, &[0x11], &[0x10]),
+    (true, true, &[0x02, 0x11], &[0x10, 0x04]),
+];
+
+pub fn no1_plans_in_every_mode(bench: &impl Bench) {
+    for (standby, continuous, before, after_writes) in AROUND {
+        let c = Converter {
+            standby,
+            continuous,
+            output: Some(5),
+            ..shared_run(bench)
+        };
+        let expected = [before, &CHANNEL_3_WRITES, after_writes].concat();
+        let length = 10 + 2 * before.len();
+        assert_eq!(expected.len(), length);
+        let (refusal, bytes, next) = plan_request(bench, c, 1, channel_3(), length);
+        assert_eq!((refusal, &bytes), (0, &expected));
+        let mut set = Converter { output: None, ..c };
+        set.registers[0x07] = 0xCD;
+        set.registers[0x0D..=0x11].copy_from_slice(&[0x16, 0xFB, 0x04, 0x00, 0x84]);
+        assert_eq!(next, set);
+        assert_eq!(after(bench, c, &bytes), set);
+        for room in 0..length {
+            assert_eq!(plan_request(bench, c, 1, channel_3(), room).0, 9);
+        }
+    }
+}
+
+pub fn no1_every_channel_and_filling(bench: &impl Bench) {
+    for start in [0x00, 0xFF, 0x5A] {
+        let mut c = command_mode(bench);
+        c.registers[1..].fill(start);
+        for channel in 1..=8 {
+            for values in [CHANNEL_VALUES, [0, 6, 0, 0, 0, 1, 0, 1, 0]] {
+                let request = Request::whole_channel(channel, values);
+                let (refusal, bytes, next) = plan_request(bench, c, 0, request, 14);
+                let mut expected = c;
+                for (cell, value) in cells::named(&request) {
+                    cell.store(&mut expected.registers, value);
+                }
+                assert_eq!((refusal, next), (0, expected));
+                let own = expected.registers[4 + channel as usize];
+                let run = &expected.registers[0x0D..=0x11];
+                let command = 0x44 + channel as u8;
+                assert_eq!(bytes, [&[command, 0x00, own, 0x4D, 0x04], run].concat());
+            }
+        }
+    }
+}
+
+pub fn no1_places(bench: &impl Bench) {
+    let c = Converter {
+        standby: true,
+        continuous: true,
+        ..shared_run(bench)
+    };
+    let before = [0xA5; 20];
+    for at in (0..23).chain([usize::MAX - 13, usize::MAX]) {
+        let mut tx = before;
+        let (refusal, length, next) = bench.plan(c, 1, channel_3(), &mut tx, at);
+        if at <= 6 {
+            let plan = [&[0x02, 0x11], &CHANNEL_3_WRITES[..], &[0x10, 0x04]].concat();
+            let mut expected = before;
+            expected[at..at + 14].copy_from_slice(&plan);
+            assert_eq!((refusal, length, tx), (0, 14, expected));
+        } else {
+            assert_eq!((refusal, length, next, tx), (9, 0, c, before), "place {at}");
+        }
+    }
+}
+
+pub fn no1_every_value_is_judged(bench: &impl Bench) {
+    let c = shared_run(bench);
+    for index in 0..9 {
+        let cell = cells::find(index as u32 + 1, 3).expect("a channel's field");
+        for value in (0..=9).chain([128, 255, 256, 257, 16_383, 16_384, 65_536, u32::MAX]) {
+            let mut request = channel_3();
+            request.values[index] = value;
+            let expected = if cell.admits(value) { 0 } else { 7 };
+            let refusal = plan_request(bench, c, 1, request, 14).0;
+            assert_eq!(refusal, expected, "field {} value {value}", index + 1);
+        }
+    }
+}
+
+pub fn no1_every_set_of_faults(bench: &impl Bench) {
+    for (faults, bad) in (0..256u32).flat_map(|faults| (0..9).map(move |bad| (faults, bad))) {
+        let has = |bit: u32| faults >> bit & 1 == 1;
+        let mut c = shared_run(bench);
+        if has(0) {
+            c.registers[0] = 0x3F;
+        }
+        if has(6) {
+            c = counting(c, Direction::Read, 1, 2);
+        }
+        let party = if has(1) { 9 } else { 1 + u32::from(has(4)) };
+        let mut request = channel_3();
+        if has(2) {
+            request.field = [27, 28, 29, 31, 286, 30 | 0x8000_0000][bad % 6];
+        }
+        if has(3) {
+            request.channel = [0, 9, 259][bad % 3];
+        }
+        if has(5) {
+            request.values[bad] = if bad == 1 { 7 } else { 8 };
+        }
+        let room = if has(7) { 9 } else { 10 };
+        let numbers = [13, 3, 4, 5, 6, 7, 8, 9];
+        let expected = (0..8)
+            .find(|&bit| has(bit))
+            .map_or(0, |bit| numbers[bit as usize]);
+        let (refusal, bytes, _) = plan_request(bench, c, party, request, room);
+        assert_eq!(refusal, expected, "faults {faults:08b}, {request:?}");
+        assert_eq!(bytes.len(), if expected == 0 { 10 } else { 0 });
+    }
+}
+
+pub fn no1_a_stranger_learns_nothing(bench: &impl Bench) {
+    let c = shared_run(bench);
+    for bad in [[1, 7, 1, 5, 1, 0, 1, 0, 1], [1, 4, 1, 5, 1, 0, 1, 0, 2]] {
+        let request = Request::whole_channel(3, bad);
+        assert_eq!(plan_request(bench, c, 2, request, 14).0, 6);
+        assert_eq!(plan_request(bench, c, 0, request, 14).0, 6);
+        assert_eq!(plan_request(bench, c, 1, request, 14).0, 7);
+    }
+}
+
+pub fn no1_other_fields_use_one_value(bench: &impl Bench) {
+    let c = shared_run(bench);
+    for rest in [0, 1, 7, 16_384, u32::MAX] {
+        let mut request = Request::one(2, 3, 4);
+        request.values[1..].fill(rest);
+        let (refusal, bytes, _) = plan_request(bench, c, 1, request, 3);
+        assert_eq!((refusal, bytes), (0, vec![0x47, 0x00, 0x40]));
+        let mut buffer = [0xEE; 4];
+        assert_eq!(bench.request_write(request, &mut buffer), (0, 3));
+        assert_eq!(buffer, [0x02, 0x03, 0x04, 0xEE]);
+    }
+}
+
+/// Field 30 and channel as bytes, nine values of one byte each.
+fn short_request(channel: u8, values: [u8; 9]) -> Vec<u8> {
+    [&[0x1E, channel], &values[..]].concat()
+}
+
+pub fn no1_reader(bench: &impl Bench) {
+    let values = [1, 2, 3, 4, 5, 6, 7, 8, 9];
+    for channel in [0, 3, 9, 127] {
+        let mut bytes = short_request(channel, values);
+        bytes.extend([0x83, 0x00]);
+        let request = Request::whole_channel(channel.into(), values.map(u32::from));
+        assert_eq!(bench.request_read(&bytes), (0, request, 11));
+        for length in 0..11 {
+            let cut = bench.request_read(&bytes[..length]);
+            assert_eq!(cut, (1, NOTHING_READ, 0), "{length} bytes");
+        }
+    }
+    let mut longest = vec![0x1E];
+    longest.extend([0xFF, 0x7F].repeat(10));
+    let request = Request::whole_channel(16_383, [16_383; 9]);
+    assert_eq!(bench.request_read(&longest), (0, request, 21));
+    assert_eq!(bench.request_read(&longest[..20]), (1, NOTHING_READ, 0));
+}
+
+pub fn no1_reader_from_left_to_right(bench: &impl Bench) {
+    for place in 1..11 {
+        let mut bytes = short_request(3, [0; 9]);
+        bytes[place] = 0x83;
+        // Then a 0 follows, or nothing behind the last.
+        let expected = if place == 10 { 1 } else { 2 };
+        assert_eq!(bench.request_read(&bytes), (expected, NOTHING_READ, 0));
+        bytes.insert(place + 1, 0xFF);
+        assert_eq!(bench.request_read(&bytes), (2, NOTHING_READ, 0));
+        bytes.truncate(place + 1);
+        assert_eq!(bench.request_read(&bytes), (1, NOTHING_READ, 0));
+    }
+    // No other field has nine values; 30 in a longer form is none.
+    for field in [0x01, 0x1D, 0x1F] {
+        let bytes = [field, 0x03, 0x04, 0x05, 0x06];
+        let request = Request::one(field.into(), 3, 4);
+        assert_eq!(bench.request_read(&bytes), (0, request, 3));
+    }
+    let longer_form = [&[0x9E, 0x00], &[0x01; 10][..]].concat();
+    assert_eq!(bench.request_read(&longer_form), (2, NOTHING_READ, 0));
+    let field_158 = [0x9E, 0x01, 0x03, 0x04, 0x05];
+    let request = Request::one(158, 3, 4);
+    assert_eq!(bench.request_read(&field_158), (0, request, 4));
+}
+
+pub fn no1_writer(bench: &impl Bench) {
+    let numbers = [300, 0, 127, 128, 1, 16_383, 2, 3, 4];
+    let request = Request::whole_channel(9, numbers);
+    let bytes = [
+        0x1E, 0x09, 0xAC, 0x02, 0x00, 0x7F, 0x80, 0x01, 0x01, 0xFF, 0x7F, 0x02, 0x03, 0x04,
+    ];
+    let mut buffer = [0xEE; 16];
+    assert_eq!(bench.request_write(request, &mut buffer), (0, 14));
+    assert_eq!(buffer[..14], bytes);
+    assert_eq!(buffer[14..], [0xEE, 0xEE]);
+    assert_eq!(bench.request_read(&buffer), (0, request, 14));
+    for length in 0..14 {
+        let mut short = vec![0xEE; length];
+        assert_eq!(bench.request_write(request, &mut short), (9, 0));
+        assert_eq!(short, vec![0xEE; length]);
+    }
+    for (request, used) in [
+        (Request::whole_channel(0, [0; 9]), 11),
+        (Request::whole_channel(16_383, [128; 9]), 21),
+    ] {
+        let mut exact = vec![0xEE; used];
+        assert_eq!(bench.request_write(request, &mut exact), (0, used));
+        assert_eq!(bench.request_read(&exact), (0, request, used));
+        assert_eq!(bench.request_write(request, &mut exact[1..]), (9, 0));
+    }
+}
+
+pub fn no1_writer_judges_all_numbers(bench: &impl Bench) {
+    for place in 0..10 {
+        for number in [16_384, 65_536, u32::MAX] {
+            let mut request = Request::whole_channel(3, [0; 9]);
+            match place {
+                0 => request.channel = number,
+                _ => request.values[place - 1] = number,
+            }
+            for length in [0, 10, 24] {
+                let mut buffer = vec![0xEE; length];
+                assert_eq!(bench.request_write(request, &mut buffer), (7, 0));
+                assert_eq!(buffer, vec![0xEE; length]);
+            }
+        }
+    }
+}
+
+pub fn no1_program(bench: &impl Bench) {
+    let accepted = short_request(3, [1, 4, 1, 5, 1, 0, 1, 0, 1]);
+    let line = "0 11 47 00 CD 4D 04 04 00 04 00 04 10\n";
+    let wrong_channel = short_request(9, [0x02; 9]);
+    let bad_gain = short_request(3, [0, 7, 0, 0, 0, 0, 0, 0, 0]);
+    let bad_ninth = short_request(3, [0, 0, 0, 0, 0, 0, 0, 0, 2]);
+    let ends_inside = [&accepted[..10], &[0x83]].concat();
+    let malformed = [&accepted[..10], &[0x83, 0x00, 0x02]].concat();
+    let single = [0x06, 0x08, 0x01];
+    let rows: [(u8, Vec<&[u8]>, String); 8] = [
+        (1, vec![&accepted], line.to_string()),
+        (
+            1,
+            vec![&accepted, &single, &accepted],
+            format!("{line}0 11 4E 00 80 10\n0 11 47 00 CD 4D 04 04 80 04 00 04 10\n"),
+        ),
+        (
+            1,
+            vec![&wrong_channel, &bad_gain, &bad_ninth, &accepted],
+            format!("5\n7\n7\n{line}"),
+        ),
+        (2, vec![&bad_gain, &accepted], "6\n6\n".to_string()),
+        (9, vec![&wrong_channel], "3\n".to_string()),
+        (1, vec![&accepted, &ends_inside], format!("{line}1\n")),
+        (1, vec![&malformed, &accepted], "2\n".to_string()),
+        (1, vec![&[0x1E, 0x03, 0x04]], "1\n".to_string()),
+    ];
+    for (party, requests, output) in rows {
+        let input = [&[party], &requests.concat()[..]].concat();
+        let text = String::from_utf8(bench.console(&input)).expect("plain text");
+        assert_eq!(text, output, "input {input:02x?}");
+    }
+}
+
+pub fn no1_program_input_limit(bench: &impl Bench) {
+    let mut input = vec![0x01];
+    for _ in 0..372 {
+        input.extend(short_request(3, [1, 4, 1, 5, 1, 0, 1, 0, 1]));
+    }
+    let lines = "0 11 47 00 CD 4D 04 04 00 04 00 04 10\n".repeat(372);
+    // Three bytes are left for one more request.
+    input.extend([0x02, 0x03, 0x04]);
+    assert_eq!(input.len(), 4096);
+    let expected = lines + "0 11 47 00 CD 10\n";
+    assert_eq!(bench.console(&input), expected.into_bytes());
+    input.push(0x1E);
+    assert_eq!(bench.console(&input), b"14\n");
+}
+
 /// Hands the name of every figure to a macro.
 #[macro_export]
 macro_rules! for_each_figure {
@@ -1080,6 +1414,19 @@ macro_rules! for_each_figure {
             grt1_to_grt4_grants
             prg1_to_prg6_program
             prg5_input_limit
+            no1_plans_in_every_mode
+            no1_every_channel_and_filling
+            no1_places
+            no1_every_value_is_judged
+            no1_every_set_of_faults
+            no1_a_stranger_learns_nothing
+            no1_other_fields_use_one_value
+            no1_reader
+            no1_reader_from_left_to_right
+            no1_writer
+            no1_writer_judges_all_numbers
+            no1_program
+            no1_program_input_limit
         }
     };
 }

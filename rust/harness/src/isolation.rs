@@ -1,33 +1,37 @@
 //! Isolation between parties: whatever way their requests are interleaved,
 //! each party gets the same answers and its settings end the same.
 
+use std::ops::Range;
+
 use crate::cells::{self, Cell};
 use crate::laws::send;
 use crate::random::Random;
 use crate::states::{self, DAMAGES};
-use crate::{calls, Bench, Converter, Phase};
+use crate::{calls, Bench, Converter, Phase, Request, WHOLE_CHANNEL};
 
 /// Parties that send requests; 9 to 12 are unknown to the bench.
 pub const PARTIES: u32 = 13;
 
-/// A setting request with a transmit buffer of its own.
+/// A party's setting request with a transmit buffer of its own.
 #[derive(Clone, Debug)]
-struct Request {
+struct Submission {
     party: u32,
-    field: u32,
-    channel: u32,
-    value: u32,
+    request: Request,
     tx: Vec<u8>,
     at: usize,
 }
 
-impl Request {
+impl Submission {
+    fn is_whole_channel(&self) -> bool {
+        self.request.field == WHOLE_CHANNEL
+    }
+
     fn room(&self) -> usize {
         self.tx.len().saturating_sub(self.at)
     }
 }
 
-/// What one request got.
+/// What one submission got.
 #[derive(Clone, Debug, PartialEq, Eq)]
 struct Answer {
     refusal: u8,
@@ -40,8 +44,22 @@ pub struct Coverage {
     pub rounds: u64,
     pub requests: u64,
     pub accepted: u64,
-    /// Plans whose data byte differed between the two merges.
+    /// Accepted requests for a whole channel.
+    pub whole_channels: u64,
+    /// Plans whose data bytes differed between the two merges.
     pub differing_plans: u64,
+    /// Those of whole channels among them.
+    pub differing_whole_channels: u64,
+}
+
+impl Coverage {
+    fn note_accepted(&mut self, submission: &Submission, plans_differ: bool) {
+        let whole = submission.is_whole_channel();
+        self.accepted += 1;
+        self.whole_channels += u64::from(whole);
+        self.differing_plans += u64::from(plans_differ);
+        self.differing_whole_channels += u64::from(whole && plans_differ);
+    }
 }
 
 /// The reference: one cell per setting, everything else from the first state.
@@ -65,44 +83,55 @@ impl Reference {
         }
     }
 
-    fn plan_length(&self) -> usize {
-        3 + 2 * usize::from(self.first.standby) + 2 * usize::from(self.first.continuous)
+    fn plan_length(&self, submission: &Submission) -> usize {
+        let writes = if submission.is_whole_channel() { 10 } else { 3 };
+        writes + 2 * usize::from(self.first.standby) + 2 * usize::from(self.first.continuous)
     }
 
-    /// The number a request must get; an accepted value goes to its cell.
-    fn answer(&mut self, request: &Request) -> u8 {
+    /// The number a submission must get, judged by the first state alone.
+    fn judge(&self, submission: &Submission) -> u8 {
+        let request = &submission.request;
+        let named = cells::named(request);
         if !self.sound {
             return 13;
         }
-        if request.party > 8 {
+        if submission.party > 8 {
             return 3;
         }
-        if request.field == 0 || request.field > 26 {
+        if !cells::is_known(request.field) {
             return 4;
         }
-        let plan_length = self.plan_length();
-        let (field, channel) = (request.field, request.channel);
-        let named = self
-            .cells
-            .iter_mut()
-            .find(|(c, _)| c.field == field && c.channel == channel);
-        let Some((cell, value)) = named else {
+        let Some((cell, _)) = named.first() else {
             return 5;
         };
-        if cell.owner(&self.first.owners) != request.party {
+        if cell.owner(&self.first.owners) != submission.party {
             return 6;
         }
-        if !cell.admits(request.value) {
+        if !cells::admitted(request) {
             return 7;
         }
         if self.first.phase != Phase::Waiting {
             return 8;
         }
-        if request.room() < plan_length {
+        if submission.room() < self.plan_length(submission) {
             return 9;
         }
-        *value = request.value;
         0
+    }
+
+    /// The number a submission must get; accepted values go to their cells.
+    fn answer(&mut self, submission: &Submission) -> u8 {
+        let refusal = self.judge(submission);
+        if refusal == 0 {
+            for (named, value) in cells::named(&submission.request) {
+                for (cell, held) in &mut self.cells {
+                    if *cell == named {
+                        *held = value;
+                    }
+                }
+            }
+        }
+        refusal
     }
 
     /// The state all requests together must lead to.
@@ -141,40 +170,47 @@ fn channels_of(c: &Converter, party: u32) -> Vec<u32> {
         .collect()
 }
 
-fn request(random: &mut Random, own: &[u32], party: u32) -> Request {
-    let (mut field, mut channel, mut value) = calls::setting(random);
-    if !own.is_empty() && random.chance(75) {
-        channel = random.pick(own);
-        field = if random.chance(60) {
-            random.between(5, 9)
-        } else {
-            random.between(1, 9)
-        } as u32;
-        let bound = if random.chance(80) { 2 } else { 9 };
-        value = random.below(bound) as u32;
+/// A request for one of the party's own channels, mostly legal.
+fn own_request(random: &mut Random, own: &[u32]) -> Request {
+    let channel = random.pick(own);
+    if random.chance(35) {
+        return Request::whole_channel(channel, calls::channel_values(random));
     }
-    let length = if random.chance(8) {
-        random.below(8)
+    let field = if random.chance(60) {
+        random.between(5, 9)
     } else {
-        random.between(7, 12)
+        random.between(1, 9)
+    };
+    let bound = if random.chance(80) { 2 } else { 9 };
+    Request::one(field as u32, channel, random.below(bound) as u32)
+}
+
+fn submission(random: &mut Random, own: &[u32], party: u32) -> Submission {
+    let request = if !own.is_empty() && random.chance(75) {
+        own_request(random, own)
+    } else {
+        calls::request(random)
+    };
+    let length = if random.chance(8) {
+        random.below(15)
+    } else {
+        random.between(14, 19)
     };
     let at = match random.below(12) {
         0 => random.between(0, length),
         1 => random.pick(&[length, length + 1, usize::MAX]),
-        _ => random.below(length.saturating_sub(6).max(1)),
+        _ => random.below(length.saturating_sub(13).max(1)),
     };
-    Request {
+    Submission {
         party,
-        field,
-        channel,
-        value,
+        request,
         tx: random.bytes(length),
         at,
     }
 }
 
 /// An order of all requests (party, index) that keeps each party's own.
-fn merge(random: &mut Random, lists: &[Vec<Request>]) -> Vec<(usize, usize)> {
+fn merge(random: &mut Random, lists: &[Vec<Submission>]) -> Vec<(usize, usize)> {
     let mut taken = vec![0; lists.len()];
     let mut order = Vec::new();
     let stay = random.pick(&[0, 0, 50, 90]);
@@ -201,7 +237,7 @@ fn merge(random: &mut Random, lists: &[Vec<Request>]) -> Vec<(usize, usize)> {
 fn run(
     bench: &impl Bench,
     first: Converter,
-    lists: &[Vec<Request>],
+    lists: &[Vec<Submission>],
     order: &[(usize, usize)],
 ) -> Result<(Vec<Vec<Answer>>, Converter), String> {
     let mut reference = Reference::new(bench, first);
@@ -209,33 +245,26 @@ fn run(
     let mut state = first;
     let mut twin = first;
     for &(party, index) in order {
-        let request = &lists[party][index];
-        let mut tx = request.tx.clone();
-        let (refusal, length, next) = bench.plan(
-            state,
-            request.party,
-            request.field,
-            request.channel,
-            request.value,
-            &mut tx,
-            request.at,
-        );
-        let expected = reference.answer(request);
+        let submission = &lists[party][index];
+        let Submission { request, at, .. } = *submission;
+        let mut tx = submission.tx.clone();
+        let (refusal, length, next) = bench.plan(state, submission.party, request, &mut tx, at);
+        let expected = reference.answer(submission);
         if refusal != expected {
-            return Err(format!("{request:?} got {refusal}, not {expected}"));
+            return Err(format!("{submission:?} got {refusal}, not {expected}"));
         }
         let plan = if refusal == 0 {
-            if length != reference.plan_length() {
-                return Err(format!("{request:?}: plan of {length} bytes"));
+            if length != reference.plan_length(submission) {
+                return Err(format!("{submission:?}: plan of {length} bytes"));
             }
-            let plan = tx[request.at..request.at + length].to_vec();
+            let plan = tx[at..at + length].to_vec();
             twin = send(bench, twin, &plan)
                 .ok_or("an accepted plan was refused as bytes")?
                 .1;
             plan
         } else {
-            if length != 0 || tx != request.tx || next != state {
-                return Err(format!("refused {request:?} left a trace"));
+            if length != 0 || tx != submission.tx || next != state {
+                return Err(format!("refused {submission:?} left a trace"));
             }
             Vec::new()
         };
@@ -261,7 +290,7 @@ fn run(
 fn owners_last_values(
     first: &Converter,
     end: &Converter,
-    lists: &[Vec<Request>],
+    lists: &[Vec<Submission>],
     answers: &[Vec<Answer>],
 ) -> Result<(), String> {
     for cell in cells::all() {
@@ -271,11 +300,10 @@ fn owners_last_values(
             .into_iter()
             .flatten()
             .zip(answers.get(owner).into_iter().flatten())
-            .filter(|(request, answer)| {
-                answer.refusal == 0
-                    && (request.field, request.channel) == (cell.field, cell.channel)
-            })
-            .map(|(request, _)| request.value)
+            .filter(|(_, answer)| answer.refusal == 0)
+            .flat_map(|(submission, _)| cells::named(&submission.request))
+            .filter(|(named, _)| *named == cell)
+            .map(|(_, value)| value)
             .last()
             .unwrap_or(cell.value(&first.registers));
         let held = cell.value(&end.registers);
@@ -286,45 +314,62 @@ fn owners_last_values(
     Ok(())
 }
 
-/// Two plans of one request: alike but for bits of channels of others.
+/// The bits of channels of others, in a register with a bit for each.
+fn foreign_bits(first: &Converter, party: u32) -> u8 {
+    let owners = first.owners.iter().enumerate();
+    owners
+        .filter(|(_, &owner)| u32::from(owner) != party)
+        .fold(0, |bits, (bit, _)| bits | 1 << bit)
+}
+
+/// Where a plan's bytes of registers with a bit for each channel lie.
+fn shared_bytes(first: &Converter, submission: &Submission) -> Range<usize> {
+    let start = usize::from(first.standby) + usize::from(first.continuous);
+    if submission.is_whole_channel() {
+        // Behind CHnSET's write, the run's command and its count.
+        return start + 5..start + 10;
+    }
+    let named = cells::named(&submission.request);
+    if named
+        .iter()
+        .any(|(cell, _)| cell.register_is_shared_by_channels())
+    {
+        start + 2..start + 3
+    } else {
+        0..0
+    }
+}
+
+/// Two plans of one submission: alike but for bits of channels of others.
 /// Tells whether they differ.
 fn plans_agree(
     first: &Converter,
-    request: &Request,
+    submission: &Submission,
     one: &[u8],
     other: &[u8],
 ) -> Result<bool, String> {
-    let cell = cells::find(request.field, request.channel)
-        .ok_or("an accepted request names no setting")?;
-    let data = 2 + usize::from(first.standby) + usize::from(first.continuous);
-    let mut foreign = 0u8;
-    if cell.register_is_shared_by_channels() {
-        for (bit, &owner) in first.owners.iter().enumerate() {
-            if u32::from(owner) != request.party {
-                foreign |= 1 << bit;
-            }
-        }
-    }
+    let foreign = foreign_bits(first, submission.party);
+    let shared = shared_bytes(first, submission);
     let agree = one.len() == other.len()
         && one.iter().zip(other).enumerate().all(|(index, (a, b))| {
-            let may_differ = if index == data { foreign } else { 0 };
+            let may_differ = if shared.contains(&index) { foreign } else { 0 };
             (a ^ b) & !may_differ == 0
         });
     if agree {
         Ok(one != other)
     } else {
-        Err(format!("{request:?}: plans {one:02x?} and {other:02x?}"))
+        Err(format!("{submission:?}: plans {one:02x?} and {other:02x?}"))
     }
 }
 
 fn round(bench: &impl Bench, random: &mut Random, coverage: &mut Coverage) -> Result<(), String> {
     let first = first_state(bench, random);
-    let lists: Vec<Vec<Request>> = (0..PARTIES)
+    let lists: Vec<Vec<Submission>> = (0..PARTIES)
         .map(|party| {
             let own = channels_of(&first, party);
             let most = if own.is_empty() { 3 } else { 9 };
             (0..random.between(0, most))
-                .map(|_| request(random, &own, party))
+                .map(|_| submission(random, &own, party))
                 .collect()
         })
         .collect();
@@ -336,16 +381,16 @@ fn round(bench: &impl Bench, random: &mut Random, coverage: &mut Coverage) -> Re
     }
     owners_last_values(&first, &end_one, &lists, &one)?;
     for (party, list) in lists.iter().enumerate() {
-        for (index, request) in list.iter().enumerate() {
+        for (index, submission) in list.iter().enumerate() {
             let (a, b) = (&one[party][index], &two[party][index]);
             coverage.requests += 1;
             if a.refusal != b.refusal {
-                return Err(format!("{request:?} got {} and {}", a.refusal, b.refusal));
+                let numbers = (a.refusal, b.refusal);
+                return Err(format!("{submission:?} got {numbers:?}"));
             }
             if a.refusal == 0 {
-                coverage.accepted += 1;
-                let differ = plans_agree(&first, request, &a.plan, &b.plan)?;
-                coverage.differing_plans += u64::from(differ);
+                let differ = plans_agree(&first, submission, &a.plan, &b.plan)?;
+                coverage.note_accepted(submission, differ);
             }
         }
     }

@@ -1,9 +1,9 @@
 //! Laws that tie a bench's answers to each other, checked on random calls.
 
-use crate::calls::{self, Call, Outcome};
+use crate::calls::{self, Call, Outcome, NUMBERS};
 use crate::compare::Driver;
 use crate::random::Random;
-use crate::{Bench, Converter, Phase};
+use crate::{Bench, Converter, Phase, Request, WHOLE_CHANNEL};
 
 fn ensure(condition: bool, law: &str) -> Result<(), String> {
     if condition {
@@ -30,7 +30,10 @@ pub(crate) fn send(bench: &impl Bench, c: Converter, bytes: &[u8]) -> Option<(Ve
 
 /// A refusal changes nothing and tells nothing but its number.
 fn refused_alone(given: &Converter, call: &Call, outcome: &Outcome) -> Result<(), String> {
-    ensure(outcome.numbers == [0; 4], "a refusal tells only its number")?;
+    ensure(
+        outcome.numbers == [0; NUMBERS],
+        "a refusal tells only its number",
+    )?;
     match call {
         Call::PowerUp { .. } => ensure(
             outcome.state.registers[0] == 0,
@@ -73,33 +76,86 @@ fn plan_law(
     )
 }
 
+/// A whole channel's request does what one request for each field does.
+fn whole_channel_law(
+    bench: &impl Bench,
+    given: &Converter,
+    after: &Converter,
+    party: u32,
+    request: &Request,
+) -> Result<(), String> {
+    if request.field != WHOLE_CHANNEL {
+        return Ok(());
+    }
+    let mut state = *given;
+    for (field, value) in (1..).zip(request.values) {
+        let each = Request::one(field, request.channel, value);
+        let (refusal, _, next) = bench.plan(state, party, each, &mut [0; 7], 0);
+        ensure(
+            refusal == 0,
+            "each of an accepted channel's values is legal",
+        )?;
+        state = next;
+    }
+    ensure(state == *after, "a channel is set as field by field")
+}
+
+/// The request with other values where its field leaves them unused.
+fn with_other_unused(random: &mut Random, request: &Request) -> Request {
+    let mut other = *request;
+    for value in &mut other.values[request.meant().len()..] {
+        *value = random.edge(0, 7);
+    }
+    other
+}
+
+/// Values that a request's field leaves unused change no answer.
+fn unused_law(
+    bench: &impl Bench,
+    random: &mut Random,
+    given: &Converter,
+    call: &Call,
+    outcome: &Outcome,
+) -> Result<(), String> {
+    let mut other = call.clone();
+    match &mut other {
+        Call::RequestWrite { request, .. } | Call::Plan { request, .. } => {
+            *request = with_other_unused(random, request);
+        }
+        _ => return Ok(()),
+    }
+    ensure(
+        calls::perform(bench, *given, &other) == *outcome,
+        "values that are not used do not matter",
+    )
+}
+
+/// What a reader makes of a request that was written.
+fn as_read(request: &Request) -> Request {
+    let mut read = *request;
+    read.values[request.meant().len()..].fill(0);
+    read
+}
+
 fn request_laws(bench: &impl Bench, call: &Call, outcome: &Outcome) -> Result<(), String> {
     match call {
         Call::RequestRead { bytes } => {
-            let [field, channel, value, used] = outcome.numbers;
+            let (_, request, used) = bench.request_read(bytes);
+            ensure(used <= bytes.len(), "no more bytes are used than given")?;
             ensure(
-                used as usize <= bytes.len(),
-                "no more bytes are used than given",
+                as_read(&request) == request,
+                "values that are not read are 0",
             )?;
-            let mut buffer = vec![0xA5; used as usize];
-            let answer =
-                bench.request_write(field as u32, channel as u32, value as u32, &mut buffer);
-            ensure(answer == (0, used as usize), "what was read can be written")?;
-            ensure(
-                buffer == bytes[..used as usize],
-                "writing gives back the bytes read",
-            )
+            let mut buffer = vec![0xA5; used];
+            let answer = bench.request_write(request, &mut buffer);
+            ensure(answer == (0, used), "what was read can be written")?;
+            ensure(buffer == bytes[..used], "writing gives back the bytes read")
         }
-        Call::RequestWrite {
-            field,
-            channel,
-            value,
-            buffer,
-        } => {
+        Call::RequestWrite { request, buffer } => {
             let used = outcome.numbers[0] as usize;
             ensure(used <= buffer.len(), "a request lies in its buffer")?;
             ensure(
-                bench.request_read(&outcome.buffer) == (0, *field, *channel, *value, used),
+                bench.request_read(&outcome.buffer) == (0, as_read(request), used),
                 "reading gives back what was written",
             )?;
             ensure(
@@ -233,6 +289,7 @@ fn check_call(
     outcome: &Outcome,
 ) -> Result<(), String> {
     reading_law(bench, random, given, call)?;
+    unused_law(bench, random, given, call, outcome)?;
     match outcome.refusal {
         Some(0) => {}
         Some(_) => return refused_alone(given, call, outcome),
@@ -252,7 +309,15 @@ fn check_call(
         }
     }
     match call {
-        Call::Plan { tx, at, .. } => plan_law(bench, given, outcome, tx, *at),
+        Call::Plan {
+            party,
+            request,
+            tx,
+            at,
+        } => {
+            plan_law(bench, given, outcome, tx, *at)?;
+            whole_channel_law(bench, given, &outcome.state, *party, request)
+        }
         Call::Sample { codes, p, n } => sample_law(bench, given, &outcome.state, codes, *p, *n),
         _ => request_laws(bench, call, outcome),
     }

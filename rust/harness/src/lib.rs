@@ -17,7 +17,7 @@ pub mod states;
 use std::ops::Range;
 
 pub use compare::{compare, Disagreement, Stats};
-pub use model::{Converter, Direction, Phase, Transfer};
+pub use model::{Converter, Direction, Phase, Request, Transfer, WHOLE_CHANNEL};
 
 /// The entry points of a bench. Each answer begins with its refusal number,
 /// except `channel_bytes` (a place in the frame) and `console` (its output).
@@ -42,20 +42,16 @@ pub trait Bench {
     ) -> (u8, i32, bool, bool);
     /// Where the returned part lies in `frame`; any empty part counts as 0..0.
     fn channel_bytes(&self, c: Converter, party: u32, channel: u32, frame: &[u8]) -> Range<usize>;
-    /// (refusal, field, channel, value, bytes used)
-    fn request_read(&self, bytes: &[u8]) -> (u8, u32, u32, u32, usize);
+    /// (refusal, request, bytes used)
+    fn request_read(&self, bytes: &[u8]) -> (u8, Request, usize);
     /// (refusal, bytes used)
-    fn request_write(&self, field: u32, channel: u32, value: u32, buffer: &mut [u8])
-        -> (u8, usize);
+    fn request_write(&self, request: Request, buffer: &mut [u8]) -> (u8, usize);
     /// (refusal, plan length, state after the plan)
-    #[allow(clippy::too_many_arguments)]
     fn plan(
         &self,
         c: Converter,
         party: u32,
-        field: u32,
-        channel: u32,
-        value: u32,
+        request: Request,
         tx: &mut [u8],
         at: usize,
     ) -> (u8, usize, Converter);
@@ -72,7 +68,7 @@ pub fn check_all(bench: &impl Bench, calls: u64, seed: u64) -> Stats {
     compare(&Model, bench, calls, seed).unwrap_or_else(|found| panic!("{found}"))
 }
 
-/// The model of document 01 as a bench.
+/// The model of documents 01 and 02 as a bench.
 #[derive(Clone, Copy, Debug)]
 pub struct Model;
 
@@ -104,29 +100,21 @@ impl Bench for Model {
     fn channel_bytes(&self, c: Converter, party: u32, channel: u32, frame: &[u8]) -> Range<usize> {
         model::channel_bytes(c, party, channel, frame)
     }
-    fn request_read(&self, bytes: &[u8]) -> (u8, u32, u32, u32, usize) {
+    fn request_read(&self, bytes: &[u8]) -> (u8, Request, usize) {
         model::request_read(bytes)
     }
-    fn request_write(
-        &self,
-        field: u32,
-        channel: u32,
-        value: u32,
-        buffer: &mut [u8],
-    ) -> (u8, usize) {
-        model::request_write(field, channel, value, buffer)
+    fn request_write(&self, request: Request, buffer: &mut [u8]) -> (u8, usize) {
+        model::request_write(request, buffer)
     }
     fn plan(
         &self,
         c: Converter,
         party: u32,
-        field: u32,
-        channel: u32,
-        value: u32,
+        request: Request,
         tx: &mut [u8],
         at: usize,
     ) -> (u8, usize, Converter) {
-        model::plan(c, party, field, channel, value, tx, at)
+        model::plan(c, party, request, tx, at)
     }
     fn console(&self, input: &[u8]) -> Vec<u8> {
         model::console(input)

@@ -2,7 +2,7 @@
 
 use std::ops::Range;
 
-use crate::{cells, Bench, Converter, Model, Phase, Transfer};
+use crate::{cells, Bench, Converter, Model, Phase, Request, Transfer, WHOLE_CHANNEL};
 
 #[derive(Clone, Copy, Debug, PartialEq, Eq)]
 pub enum Fault {
@@ -33,6 +33,21 @@ pub enum Fault {
     InputLimitOneShort,
     SamplePlacedThroughMask,
     RefusedPlanLengthKept,
+    // Those of requests for a whole channel.
+    ChannelValuesBeforeOwner,
+    ChannelRoomOfOneField,
+    ChannelRunFromPowerUp,
+    ChannelRunOfSix,
+    ChannelInSixWrites,
+    EightValuesJudged,
+    NinthValueInEighthRegister,
+    StateAfterEightFields,
+    NineValuesOnlyForChannels,
+    EightValuesRead,
+    UnreadValuesRepeatTheFirst,
+    WriterJudgesFirstValueAlone,
+    WriterJudgesUnusedValues,
+    PlannerJudgesUnusedValues,
 }
 
 pub const LIKELY: [Fault; 10] = [
@@ -66,6 +81,28 @@ pub const RARER: [Fault; 15] = [
     Fault::RefusedPlanLengthKept,
 ];
 
+pub const WHOLE_CHANNELS: [Fault; 14] = [
+    Fault::ChannelValuesBeforeOwner,
+    Fault::ChannelRoomOfOneField,
+    Fault::ChannelRunFromPowerUp,
+    Fault::ChannelRunOfSix,
+    Fault::ChannelInSixWrites,
+    Fault::EightValuesJudged,
+    Fault::NinthValueInEighthRegister,
+    Fault::StateAfterEightFields,
+    Fault::NineValuesOnlyForChannels,
+    Fault::EightValuesRead,
+    Fault::UnreadValuesRepeatTheFirst,
+    Fault::WriterJudgesFirstValueAlone,
+    Fault::WriterJudgesUnusedValues,
+    Fault::PlannerJudgesUnusedValues,
+];
+
+/// Every fault.
+pub fn all() -> impl Iterator<Item = Fault> {
+    LIKELY.into_iter().chain(RARER).chain(WHOLE_CHANNELS)
+}
+
 /// The model with a fault.
 #[derive(Clone, Copy, Debug)]
 pub struct Mutant(pub Fault);
@@ -84,6 +121,102 @@ fn without_wrapping_sum(c: Converter) -> Converter {
             ..c
         },
         _ => c,
+    }
+}
+
+/// The plan's bytes and the state after it, were there room.
+fn unhindered(c: Converter, party: u32, request: Request) -> (Vec<u8>, Converter) {
+    let mut spare = [0; 14];
+    let (_, length, after) = Model.plan(c, party, request, &mut spare, 0);
+    (spare[..length].to_vec(), after)
+}
+
+/// A whole channel's request that names no channel, read as if it had one
+/// value.
+fn three_numbers(bytes: &[u8]) -> Option<(u8, Request, usize)> {
+    let mut single = bytes.to_vec();
+    let first = single.first_mut()?;
+    if u32::from(*first) != WHOLE_CHANNEL {
+        return None;
+    }
+    *first = 1;
+    let (refusal, mut request, used) = Model.request_read(&single);
+    request.field = WHOLE_CHANNEL;
+    let is_channel = (1..=8).contains(&request.channel);
+    (refusal == 0 && !is_channel).then_some((0, request, used))
+}
+
+/// Whether the named setting would take the unused values too.
+fn unused_values_fit(request: &Request) -> bool {
+    cells::named(request)
+        .iter()
+        .all(|(cell, _)| request.values.iter().all(|&value| cell.admits(value)))
+}
+
+/// A whole channel's plan with a command for each register.
+fn in_six_writes(c: &Converter, plan: &[u8]) -> Vec<u8> {
+    let start = usize::from(c.standby) + usize::from(c.continuous);
+    let mut bytes = plan[..start + 3].to_vec();
+    for (command, data) in (0x4D..).zip(&plan[start + 5..start + 10]) {
+        bytes.extend([command, 0x00, *data]);
+    }
+    bytes.extend(&plan[start + 10..]);
+    bytes
+}
+
+/// Lays bytes into a buffer from a place on, as far as they go.
+fn lay(bytes: &[u8], tx: &mut [u8], at: usize) {
+    for (target, byte) in tx.iter_mut().skip(at).zip(bytes) {
+        *target = *byte;
+    }
+}
+
+impl Mutant {
+    fn plan_whole_channel(
+        &self,
+        c: Converter,
+        party: u32,
+        mut request: Request,
+        tx: &mut [u8],
+        at: usize,
+    ) -> (u8, usize, Converter) {
+        let room = tx.len().saturating_sub(at);
+        let start = usize::from(c.standby) + usize::from(c.continuous);
+        let (refusal, length, mut after) = Model.plan(c, party, request, tx, at);
+        match (self.0, refusal) {
+            (Fault::ChannelValuesBeforeOwner, 6) if !cells::admitted(&request) => {
+                return (7, 0, c);
+            }
+            (Fault::ChannelRoomOfOneField, 9) if room >= 3 + 2 * start => {
+                let (bytes, after) = unhindered(c, party, request);
+                lay(&bytes, tx, at);
+                return (0, bytes.len(), after);
+            }
+            (Fault::ChannelRunFromPowerUp, 0) => {
+                let run = 0x0D..=0x11;
+                let mut wiped = c;
+                wiped.registers[run.clone()].copy_from_slice(&model::registers::POWER_UP[run]);
+                return Model.plan(wiped, party, request, tx, at);
+            }
+            (Fault::ChannelRunOfSix, 0) => tx[at + start + 4] = 5,
+            (Fault::ChannelInSixWrites, 0) => {
+                let bytes = in_six_writes(&c, &tx[at..at + length]);
+                lay(&bytes, tx, at);
+                return (0, bytes.len(), after);
+            }
+            (Fault::EightValuesJudged, 7) => {
+                request.values[8] &= 1;
+                return Model.plan(c, party, request, tx, at);
+            }
+            (Fault::NinthValueInEighthRegister, 0) => {
+                request.values[7] = request.values[8];
+                request.values[8] = u32::from(c.registers[0x11] >> (request.channel - 1) & 1);
+                return Model.plan(c, party, request, tx, at);
+            }
+            (Fault::StateAfterEightFields, 0) => after.registers[0x11] = c.registers[0x11],
+            _ => {}
+        }
+        (refusal, length, after)
     }
 }
 
@@ -221,25 +354,43 @@ impl Bench for Mutant {
         Model.channel_bytes(c, party, channel, frame)
     }
 
-    fn request_read(&self, bytes: &[u8]) -> (u8, u32, u32, u32, usize) {
-        let mut answer = Model.request_read(bytes);
-        if self.has(Fault::CountAlwaysTwo) && answer.0 == 0 {
-            answer.4 = 2;
+    fn request_read(&self, bytes: &[u8]) -> (u8, Request, usize) {
+        let (refusal, mut request, mut used) = Model.request_read(bytes);
+        let whole = request.field == WHOLE_CHANNEL;
+        match (self.0, refusal) {
+            (Fault::CountAlwaysTwo, 0) => used = 2,
+            (Fault::UnreadValuesRepeatTheFirst, 0) if !whole => {
+                request.values = [request.values[0]; 9];
+            }
+            (Fault::EightValuesRead, 0) if whole => {
+                used -= if request.values[8] > 127 { 2 } else { 1 };
+                request.values[8] = 0;
+            }
+            (Fault::NineValuesOnlyForChannels, _) => {
+                if let Some(short) = three_numbers(bytes) {
+                    return short;
+                }
+            }
+            _ => {}
         }
-        answer
+        (refusal, request, used)
     }
 
-    fn request_write(
-        &self,
-        field: u32,
-        channel: u32,
-        value: u32,
-        buffer: &mut [u8],
-    ) -> (u8, usize) {
-        let answer = Model.request_write(field, channel, value, buffer);
+    fn request_write(&self, request: Request, buffer: &mut [u8]) -> (u8, usize) {
+        let mut judged = request;
+        if self.has(Fault::WriterJudgesFirstValueAlone) {
+            judged.values[1..]
+                .iter_mut()
+                .for_each(|value| *value &= 0x3FFF);
+        }
+        let overlong = request.values.iter().any(|&value| value > 16_383);
+        if self.has(Fault::WriterJudgesUnusedValues) && overlong {
+            return (7, 0);
+        }
+        let answer = Model.request_write(judged, buffer);
         if self.has(Fault::WriterStartsBeforeJudging) && answer.0 == 9 {
             if let Some(first) = buffer.first_mut() {
-                *first = field as u8 & 0x7F;
+                *first = request.field as u8 & 0x7F;
             }
         }
         answer
@@ -249,9 +400,7 @@ impl Bench for Mutant {
         &self,
         c: Converter,
         party: u32,
-        field: u32,
-        channel: u32,
-        value: u32,
+        request: Request,
         tx: &mut [u8],
         at: usize,
     ) -> (u8, usize, Converter) {
@@ -265,32 +414,31 @@ impl Bench for Mutant {
         } else {
             at
         };
-        let (refusal, length, after) = Model.plan(c, party, field, channel, value, tx, at);
+        if request.field == WHOLE_CHANNEL && WHOLE_CHANNELS.contains(&self.0) {
+            return self.plan_whole_channel(c, party, request, tx, at);
+        }
+        let given = tx.to_vec();
+        let (refusal, length, after) = Model.plan(c, party, request, tx, at);
         match (self.0, refusal) {
-            (Fault::SharedRegisterFromPowerUp, 0) if (5..=9).contains(&field) => {
+            (Fault::SharedRegisterFromPowerUp, 0) if (5..=9).contains(&request.field) => {
                 let mut wiped = c;
-                let register = 0x0D + field as usize - 5;
+                let register = 0x0D + request.field as usize - 5;
                 wiped.registers[register] = model::registers::POWER_UP[register];
-                Model.plan(wiped, party, field, channel, value, tx, at)
+                Model.plan(wiped, party, request, tx, at)
             }
-            (Fault::ValueBeforeOwner, 6)
-                if cells::find(field, channel).is_some_and(|cell| !cell.admits(value)) =>
-            {
-                (7, length, after)
+            (Fault::PlannerJudgesUnusedValues, 0) if !unused_values_fit(&request) => {
+                tx.copy_from_slice(&given);
+                (7, 0, c)
             }
+            (Fault::ValueBeforeOwner, 6) if !cells::admitted(&request) => (7, length, after),
             (Fault::RoomTestWraps, 9) => {
-                let mut spare = [0; 7];
-                let (_, length, after) = Model.plan(c, party, field, channel, value, &mut spare, 0);
-                if at.wrapping_add(length) <= tx.len() {
-                    return (0, length, after);
+                let (bytes, after) = unhindered(c, party, request);
+                if at.wrapping_add(bytes.len()) <= tx.len() {
+                    return (0, bytes.len(), after);
                 }
                 (9, 0, c)
             }
-            (Fault::RefusedPlanLengthKept, 9) => {
-                let mut spare = [0; 7];
-                let (_, length, _) = Model.plan(c, party, field, channel, value, &mut spare, 0);
-                (9, length, c)
-            }
+            (Fault::RefusedPlanLengthKept, 9) => (9, unhindered(c, party, request).0.len(), c),
             _ => (refusal, length, after),
         }
     }

@@ -10,7 +10,9 @@ fn parties_do_not_disturb_each_other() {
         .unwrap_or_else(|fault| panic!("{fault}"));
     settings::say(&format!("isolation: {coverage:?}"));
     assert!(coverage.accepted > coverage.requests / 5);
-    assert!(coverage.differing_plans > 0);
+    assert!(coverage.whole_channels > coverage.accepted / 10);
+    assert!(coverage.differing_plans > coverage.differing_whole_channels);
+    assert!(coverage.differing_whole_channels > 0);
 }
 
 #[test]
@@ -20,6 +22,13 @@ fn disturbing_benches_are_noticed() {
         Fault::ValueBeforeOwner,
         Fault::RoomTestWraps,
         Fault::RefusedPlanLengthKept,
+        Fault::ChannelValuesBeforeOwner,
+        Fault::ChannelRoomOfOneField,
+        Fault::ChannelRunFromPowerUp,
+        Fault::ChannelInSixWrites,
+        Fault::NinthValueInEighthRegister,
+        Fault::StateAfterEightFields,
+        Fault::PlannerJudgesUnusedValues,
     ] {
         let result = std::panic::catch_unwind(|| {
             isolation::check(&Mutant(fault), 2_000, settings::DEFAULT_SEED)

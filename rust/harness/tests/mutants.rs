@@ -1,7 +1,8 @@
-//! The comparison notices every wrong bench, and so do the figures.
+//! The comparison notices every wrong bench, and so do the figures; the laws
+//! notice those that contradict themselves.
 
-use harness::mutants::{Mutant, LIKELY, RARER};
-use harness::{compare, figures, settings, Model};
+use harness::mutants::{self, Fault, Mutant};
+use harness::{compare, figures, laws, settings, Model};
 
 /// Calls within which a fault must show.
 const WITHIN: u64 = 100_000;
@@ -9,7 +10,7 @@ const WITHIN: u64 = 100_000;
 #[test]
 fn comparison_notices_every_fault() {
     let seed = settings::seed();
-    for fault in LIKELY.into_iter().chain(RARER) {
+    for fault in mutants::all() {
         let mut latest = 0;
         for offset in 0..5 {
             let found = compare(&Model, &Mutant(fault), WITHIN, seed.wrapping_add(offset))
@@ -22,8 +23,26 @@ fn comparison_notices_every_fault() {
 
 #[test]
 fn figures_notice_every_fault() {
-    for fault in LIKELY.into_iter().chain(RARER) {
+    for fault in mutants::all() {
         let outcome = std::panic::catch_unwind(|| figures::all(&Mutant(fault)));
         assert!(outcome.is_err(), "{fault:?} passes every figure");
+    }
+}
+
+#[test]
+fn laws_notice_requests_at_odds_with_each_other() {
+    for fault in [
+        Fault::ChannelRunOfSix,
+        Fault::EightValuesJudged,
+        Fault::NinthValueInEighthRegister,
+        Fault::StateAfterEightFields,
+        Fault::NineValuesOnlyForChannels,
+        Fault::EightValuesRead,
+        Fault::UnreadValuesRepeatTheFirst,
+        Fault::WriterJudgesUnusedValues,
+        Fault::PlannerJudgesUnusedValues,
+    ] {
+        let broken = laws::check(&Mutant(fault), WITHIN, settings::DEFAULT_SEED);
+        assert!(broken.is_err(), "{fault:?} breaks no law");
     }
 }

@@ -32,15 +32,14 @@ pub fn console(input: &[u8]) -> Vec<u8> {
 
     let mut text = String::new();
     while !requests.is_empty() {
-        let (refusal, field, channel, value, used) = request_read(requests);
+        let (refusal, request, used) = request_read(requests);
         if refusal != 0 {
             text.push_str(&line(refusal, &[]));
             break;
         }
         requests = &requests[used..];
         let mut tx = [0; PLAN_MAX];
-        let (refusal, length, next) =
-            plan(state, u32::from(party), field, channel, value, &mut tx, 0);
+        let (refusal, length, next) = plan(state, u32::from(party), request, &mut tx, 0);
         text.push_str(&line(refusal, &tx[..length]));
         state = next;
     }

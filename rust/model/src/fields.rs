@@ -2,6 +2,7 @@
 
 use crate::refusal::{ensure, Refusal};
 use crate::registers;
+use crate::request::{CHANNEL_FIELDS, WHOLE_CHANNEL};
 use crate::state::{check_channel, Converter, ADMINISTRATOR};
 
 /// A run of bits in one register, and the one value of that width it must
@@ -53,17 +54,18 @@ const SHARED: [Field; 17] = [
     field(0x17, 1, 1), // 26 comparators on
 ];
 
-/// A field with the party that may set it.
-#[derive(Clone, Copy, Debug, PartialEq, Eq)]
+/// The fields that a field number and a channel name, in the order of their
+/// values, with the party that may set them.
+#[derive(Clone, Debug, PartialEq, Eq)]
 pub struct Setting {
-    pub field: Field,
+    pub fields: Vec<Field>,
     pub owner: u32,
 }
 
 /// Whether the field number exists, and if so, whether it is per channel.
 pub fn per_channel(number: u32) -> Option<bool> {
     match number {
-        1..=9 => Some(true),
+        1..=9 | WHOLE_CHANNEL => Some(true),
         10..=26 => Some(false),
         _ => None,
     }
@@ -77,7 +79,19 @@ fn channel_field(number: u32, channel: usize) -> Field {
         3 => field(settings, 3, 1),
         4 => field(settings, 0, 3),
         // 5 to 9: one bit per channel in registers 0Dh to 11h.
-        _ => field(0x0D + (number - 5) as u8, (channel - 1) as u8, 1),
+        _ => {
+            let register = registers::BIAS_SENSP + number as usize - 5;
+            field(register as u8, (channel - 1) as u8, 1)
+        }
+    }
+}
+
+fn channel_fields(number: u32, channel: usize) -> Vec<Field> {
+    match number {
+        WHOLE_CHANNEL => (1..=CHANNEL_FIELDS as u32)
+            .map(|each| channel_field(each, channel))
+            .collect(),
+        _ => vec![channel_field(number, channel)],
     }
 }
 
@@ -86,13 +100,13 @@ pub fn find(c: &Converter, number: u32, channel: u32) -> Result<Setting, Refusal
     if per_channel(number).ok_or(Refusal::UnknownField)? {
         let channel = check_channel(channel)?;
         Ok(Setting {
-            field: channel_field(number, channel),
+            fields: channel_fields(number, channel),
             owner: c.owner(channel),
         })
     } else {
         ensure(channel == 0, Refusal::WrongChannel)?;
         Ok(Setting {
-            field: SHARED[(number - FIRST_SHARED) as usize],
+            fields: vec![SHARED[(number - FIRST_SHARED) as usize]],
             owner: ADMINISTRATOR,
         })
     }
@@ -112,9 +126,9 @@ impl Field {
         u32::from((registers[usize::from(self.register)] & self.mask()) >> self.low)
     }
 
-    /// The register's byte with the field replaced; the value must fit.
-    pub fn replaced(&self, registers: &[u8; registers::COUNT], value: u32) -> u8 {
-        let old = registers[usize::from(self.register)];
-        (old & !self.mask()) | ((value << self.low) as u8 & self.mask())
+    /// Replaces the field and no other bit; the value must fit.
+    pub fn set(&self, registers: &mut [u8; registers::COUNT], value: u32) {
+        let register = &mut registers[usize::from(self.register)];
+        *register = (*register & !self.mask()) | ((value << self.low) as u8 & self.mask());
     }
 }

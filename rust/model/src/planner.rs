@@ -2,10 +2,12 @@
 
 use crate::fields::{self, Field};
 use crate::refusal::{ensure, Refusal};
+use crate::registers;
+use crate::request::{Request, WHOLE_CHANNEL};
 use crate::state::{check_party, Converter, Phase};
 use crate::step::step;
 
-pub const PLAN_MAX: usize = 7;
+pub const PLAN_MAX: usize = 14;
 
 const WAKEUP: u8 = 0x02;
 const STANDBY: u8 = 0x04;
@@ -13,24 +15,44 @@ const RDATAC: u8 = 0x10;
 const SDATAC: u8 = 0x11;
 const WREG: u8 = 0x40;
 
-fn accept(
-    c: &Converter,
-    party: u32,
-    field: u32,
-    channel: u32,
-    value: u32,
-) -> Result<Field, Refusal> {
+/// The fields a request sets, once everything but the room is judged.
+fn accept(c: &Converter, party: u32, request: &Request) -> Result<Vec<Field>, Refusal> {
     c.check()?;
     check_party(party)?;
-    let setting = fields::find(c, field, channel)?;
+    let setting = fields::find(c, request.field, request.channel)?;
     ensure(setting.owner == party, Refusal::NotOwner)?;
-    ensure(setting.field.admits(value), Refusal::BadValue)?;
+    let admitted = setting
+        .fields
+        .iter()
+        .zip(request.values)
+        .all(|(field, value)| field.admits(value));
+    ensure(admitted, Refusal::BadValue)?;
     ensure(c.phase == Phase::Waiting, Refusal::NotWaiting)?;
-    Ok(setting.field)
+    Ok(setting.fields)
 }
 
-/// The bytes that set the field and lead back to the present modes.
-fn bytes_for(c: &Converter, field: Field, value: u32) -> Vec<u8> {
+/// One write command for neighbouring registers, with what they are to hold.
+fn write_run(registers: &[u8; registers::COUNT], first: usize, count: usize) -> Vec<u8> {
+    let mut bytes = vec![WREG | first as u8, count as u8 - 1];
+    bytes.extend(&registers[first..first + count]);
+    bytes
+}
+
+/// What is sent in command mode.
+fn writes(c: &Converter, request: &Request, fields: &[Field]) -> Vec<u8> {
+    let mut registers = c.registers;
+    for (field, value) in fields.iter().zip(request.values) {
+        field.set(&mut registers, value);
+    }
+    let mut bytes = write_run(&registers, usize::from(fields[0].register), 1);
+    if request.field == WHOLE_CHANNEL {
+        bytes.extend(write_run(&registers, registers::BIAS_SENSP, 5));
+    }
+    bytes
+}
+
+/// The bytes that set the fields and lead back to the present modes.
+fn bytes_for(c: &Converter, request: &Request, fields: &[Field]) -> Vec<u8> {
     let mut bytes = Vec::with_capacity(PLAN_MAX);
     if c.standby {
         bytes.push(WAKEUP);
@@ -38,11 +60,7 @@ fn bytes_for(c: &Converter, field: Field, value: u32) -> Vec<u8> {
     if c.continuous {
         bytes.push(SDATAC);
     }
-    bytes.extend([
-        WREG | field.register,
-        0,
-        field.replaced(&c.registers, value),
-    ]);
+    bytes.extend(writes(c, request, fields));
     if c.continuous {
         bytes.push(RDATAC);
     }
@@ -57,14 +75,12 @@ fn bytes_for(c: &Converter, field: Field, value: u32) -> Vec<u8> {
 pub fn plan(
     c: Converter,
     party: u32,
-    field: u32,
-    channel: u32,
-    value: u32,
+    request: Request,
     tx: &mut [u8],
     at: usize,
 ) -> (u8, usize, Converter) {
-    let bytes = match accept(&c, party, field, channel, value) {
-        Ok(found) => bytes_for(&c, found, value),
+    let bytes = match accept(&c, party, &request) {
+        Ok(fields) => bytes_for(&c, &request, &fields),
         Err(refusal) => return (refusal.number(), 0, c),
     };
     let Some(target) = tx

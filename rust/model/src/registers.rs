@@ -5,6 +5,7 @@ pub const COUNT: usize = 24;
 pub const ID: usize = 0x00;
 pub const CONFIG1: usize = 0x01;
 pub const CH1SET: usize = 0x05;
+pub const BIAS_SENSP: usize = 0x0D;
 pub const LOFF_STATP: usize = 0x12;
 pub const LOFF_STATN: usize = 0x13;
 pub const GPIO: usize = 0x14;

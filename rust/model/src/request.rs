@@ -1,46 +1,117 @@
-//! Wire form of setting requests (document 01: slips).
+//! Setting requests (documents 01 and 02: slips) and their wire form.
 
 use crate::refusal::{ensure, Refusal};
 
 /// Largest number two seven-bit groups can hold.
 pub const NUMBER_MAX: u32 = 16_383;
+/// The field that stands for all fields of a channel at once.
+pub const WHOLE_CHANNEL: u32 = 30;
+/// How many fields a channel has, numbered from 1.
+pub const CHANNEL_FIELDS: usize = 9;
 
 const MORE: u8 = 0x80;
 
-/// One number and how many bytes it took.
-fn read_number(bytes: &[u8]) -> Result<(u32, usize), Refusal> {
-    let &first = bytes.first().ok_or(Refusal::RequestTruncated)?;
-    if first & MORE == 0 {
-        return Ok((u32::from(first), 1));
-    }
-    let &second = bytes.get(1).ok_or(Refusal::RequestTruncated)?;
-    ensure(second != 0 && second & MORE == 0, Refusal::RequestMalformed)?;
-    Ok((u32::from(first & !MORE) | u32::from(second) << 7, 2))
+#[derive(Clone, Copy, Debug, PartialEq, Eq)]
+pub struct Request {
+    pub field: u32,
+    pub channel: u32,
+    /// Those of fields 1 to 9 in a whole channel's request. In every other
+    /// the first is the value, and the rest mean nothing.
+    pub values: [u32; CHANNEL_FIELDS],
 }
 
-fn read_numbers(bytes: &[u8]) -> Result<([u32; 3], usize), Refusal> {
-    let mut numbers = [0; 3];
-    let mut used = 0;
-    for number in &mut numbers {
-        let (value, length) = read_number(&bytes[used..])?;
-        *number = value;
-        used += length;
+impl Request {
+    /// One field's request.
+    pub fn one(field: u32, channel: u32, value: u32) -> Request {
+        let mut values = [0; CHANNEL_FIELDS];
+        values[0] = value;
+        Request {
+            field,
+            channel,
+            values,
+        }
     }
-    Ok((numbers, used))
+
+    /// A channel's request for all its fields, in their order.
+    pub fn whole_channel(channel: u32, values: [u32; CHANNEL_FIELDS]) -> Request {
+        Request {
+            field: WHOLE_CHANNEL,
+            channel,
+            values,
+        }
+    }
+
+    /// The values that mean something.
+    pub fn meant(&self) -> &[u32] {
+        &self.values[..value_count(self.field)]
+    }
+
+    /// The numbers of the wire form, in order.
+    pub fn numbers(&self) -> Vec<u32> {
+        [&[self.field, self.channel], self.meant()].concat()
+    }
 }
 
-/// Reads a request: (refusal, field, channel, value, bytes used).
-pub fn request_read(bytes: &[u8]) -> (u8, u32, u32, u32, usize) {
-    match read_numbers(bytes) {
-        Ok(([field, channel, value], used)) => (0, field, channel, value, used),
-        Err(refusal) => (refusal.number(), 0, 0, 0, 0),
+/// How many values follow field and channel; the channel has no say in it.
+fn value_count(field: u32) -> usize {
+    match field {
+        WHOLE_CHANNEL => CHANNEL_FIELDS,
+        _ => 1,
     }
 }
 
-fn write_numbers(numbers: [u32; 3], buffer: &mut [u8]) -> Result<usize, Refusal> {
+/// Takes numbers from the front of bytes.
+struct Reader<'a> {
+    bytes: &'a [u8],
+    used: usize,
+}
+
+impl Reader<'_> {
+    fn byte(&mut self) -> Result<u8, Refusal> {
+        let &byte = self.bytes.get(self.used).ok_or(Refusal::RequestTruncated)?;
+        self.used += 1;
+        Ok(byte)
+    }
+
+    fn number(&mut self) -> Result<u32, Refusal> {
+        let first = self.byte()?;
+        if first & MORE == 0 {
+            return Ok(u32::from(first));
+        }
+        let second = self.byte()?;
+        ensure(second != 0 && second & MORE == 0, Refusal::RequestMalformed)?;
+        Ok(u32::from(first & !MORE) | u32::from(second) << 7)
+    }
+}
+
+fn parse(bytes: &[u8]) -> Result<(Request, usize), Refusal> {
+    let mut reader = Reader { bytes, used: 0 };
+    let field = reader.number()?;
+    let channel = reader.number()?;
+    let mut values = [0; CHANNEL_FIELDS];
+    for value in &mut values[..value_count(field)] {
+        *value = reader.number()?;
+    }
+    let request = Request {
+        field,
+        channel,
+        values,
+    };
+    Ok((request, reader.used))
+}
+
+/// Reads a request: (refusal, request, bytes used).
+pub fn request_read(bytes: &[u8]) -> (u8, Request, usize) {
+    match parse(bytes) {
+        Ok((request, used)) => (0, request, used),
+        Err(refusal) => (refusal.number(), Request::one(0, 0, 0), 0),
+    }
+}
+
+fn write_numbers(numbers: &[u32], buffer: &mut [u8]) -> Result<usize, Refusal> {
     let in_range = numbers.iter().all(|&number| number <= NUMBER_MAX);
     ensure(in_range, Refusal::BadValue)?;
-    let mut bytes = Vec::with_capacity(6);
+    let mut bytes = Vec::with_capacity(2 * numbers.len());
     for number in numbers {
         let (low, high) = ((number & 0x7F) as u8, (number >> 7) as u8);
         if high == 0 {
@@ -55,8 +126,8 @@ fn write_numbers(numbers: [u32; 3], buffer: &mut [u8]) -> Result<usize, Refusal>
 }
 
 /// Writes a request to the buffer's start: (refusal, bytes used).
-pub fn request_write(field: u32, channel: u32, value: u32, buffer: &mut [u8]) -> (u8, usize) {
-    match write_numbers([field, channel, value], buffer) {
+pub fn request_write(request: Request, buffer: &mut [u8]) -> (u8, usize) {
+    match write_numbers(&request.numbers(), buffer) {
         Ok(used) => (0, used),
         Err(refusal) => (refusal.number(), 0),
     }

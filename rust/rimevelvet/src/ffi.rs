@@ -66,13 +66,22 @@ pub struct Part {
     pub length: usize,
 }
 
+/// A setting request. Any numbers may stand here; the calls judge them.
+#[repr(C)]
+#[derive(Clone, Copy, Debug, PartialEq, Eq)]
+pub struct Request {
+    pub field: u32,
+    pub channel: u32,
+    /// With [`WHOLE_CHANNEL`] those of fields 1 to 9; with every other field the first alone counts.
+    pub values: [u32; VALUES],
+}
+
 #[repr(C)]
 #[derive(Clone, Copy, Debug, PartialEq, Eq)]
 pub struct Parsed {
     pub refusal: u8,
-    pub field: u32,
-    pub channel: u32,
-    pub value: u32,
+    /// The values that were not read are 0.
+    pub request: Request,
     pub used: usize,
 }
 
@@ -91,8 +100,16 @@ pub struct Planned {
     pub next: State,
 }
 
+/// The field that stands for a channel's fields 1 to 9 at once.
+pub const WHOLE_CHANNEL: u32 = 30;
+/// How many values a request has room for.
+pub const VALUES: usize = 9;
+/// The bytes of the longest request: field 30 in one byte, and two for each other number.
+pub const LONGEST_REQUEST: usize = 21;
+/// The bytes of the longest plan: a whole channel's, in standby and continuous mode.
+pub const LONGEST_PLAN: usize = 14;
 /// The room that a transcript needs, however long the input is.
-pub const LONGEST_TRANSCRIPT: usize = 31_395;
+pub const LONGEST_TRANSCRIPT: usize = 60_060;
 
 extern "C" {
     pub fn rimevelvet_power_up(id: u8) -> PoweredUp;
@@ -115,19 +132,11 @@ extern "C" {
         length: usize,
     ) -> Part;
     pub fn rimevelvet_request_read(bytes: *const u8, length: usize) -> Parsed;
-    pub fn rimevelvet_request_write(
-        field: u32,
-        channel: u32,
-        value: u32,
-        buffer: *mut u8,
-        length: usize,
-    ) -> Written;
+    pub fn rimevelvet_request_write(request: Request, buffer: *mut u8, length: usize) -> Written;
     pub fn rimevelvet_plan(
         state: State,
         party: u32,
-        field: u32,
-        channel: u32,
-        value: u32,
+        request: Request,
         tx: *mut u8,
         length: usize,
         at: usize,

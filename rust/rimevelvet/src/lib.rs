@@ -8,7 +8,32 @@ mod ffi;
 
 use std::ops::Range;
 
-pub use ffi::{Moved, Parsed, Planned, PoweredUp, Reading, State, Stepped, Written};
+pub use ffi::{
+    Moved, Parsed, Planned, PoweredUp, Reading, Request, State, Stepped, Written, LONGEST_PLAN,
+    LONGEST_REQUEST, VALUES, WHOLE_CHANNEL,
+};
+
+impl Request {
+    /// One field of a channel, or a shared field with channel 0.
+    pub fn one(field: u32, channel: u32, value: u32) -> Request {
+        let mut values = [0; VALUES];
+        values[0] = value;
+        Request {
+            field,
+            channel,
+            values,
+        }
+    }
+
+    /// Fields 1 to 9 of a channel, accepted or refused together.
+    pub fn whole_channel(channel: u32, values: [u32; VALUES]) -> Request {
+        Request {
+            field: WHOLE_CHANNEL,
+            channel,
+            values,
+        }
+    }
+}
 
 /// A converter right after power-up, with this ID. Refused by 13.
 pub fn power_up(id: u8) -> PoweredUp {
@@ -67,36 +92,15 @@ pub fn request_read(bytes: &[u8]) -> Parsed {
 }
 
 /// Writes a setting request from the buffer's start on. Refused by 7, 9.
-pub fn request_write(field: u32, channel: u32, value: u32, buffer: &mut [u8]) -> Written {
+pub fn request_write(request: Request, buffer: &mut [u8]) -> Written {
     // SAFETY: the library writes `buffer` alone, within its length.
-    unsafe {
-        ffi::rimevelvet_request_write(field, channel, value, buffer.as_mut_ptr(), buffer.len())
-    }
+    unsafe { ffi::rimevelvet_request_write(request, buffer.as_mut_ptr(), buffer.len()) }
 }
 
 /// Plans a party's setting request into the transmit buffer from a place on. Refused by 13, 3 to 9.
-pub fn plan(
-    state: State,
-    party: u32,
-    field: u32,
-    channel: u32,
-    value: u32,
-    tx: &mut [u8],
-    at: usize,
-) -> Planned {
+pub fn plan(state: State, party: u32, request: Request, tx: &mut [u8], at: usize) -> Planned {
     // SAFETY: the library writes `tx` alone, within its length.
-    unsafe {
-        ffi::rimevelvet_plan(
-            state,
-            party,
-            field,
-            channel,
-            value,
-            tx.as_mut_ptr(),
-            tx.len(),
-            at,
-        )
-    }
+    unsafe { ffi::rimevelvet_plan(state, party, request, tx.as_mut_ptr(), tx.len(), at) }
 }
 
 /// What the program prints for an input.

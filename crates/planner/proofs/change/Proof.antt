@@ -5,4 +5,4 @@ use Rattle.planner.proofs.change.Tie as tie
 
 pub change-spec : {M : Type 1} → statement M
 unfolding changed
-change-spec = tie.close (tie.spec (λ c κs. search needs) (λ c. simp (← c .before .before .before .write .ensures)))
+change-spec = tie.close (tie.spec (λ c κs. search needs) (λ c. simp (← c .before .before .before .set-all .ensures)))

@@ -9,7 +9,7 @@ use Rattle.refusal.specs.Numbers.{none}
 use Rattle.ads1299.specs.Formed.{Formed}
 use Rattle.planner.specs.Submission.{Submission, submission}
 use Rattle.planner.specs.Planned.{refusalOf}
-use Rattle.planner.proofs.Buffer.{refused, start-within, in-part, planned-in}
+use Rattle.planner.proofs.Buffer.{refused, has-passed, start-within, in-part, planned-in}
 use Rattle.planner.proofs.plan.Statement.{statement}
 use Rattle.planner.proofs.plan.Tie as tie
 
@@ -48,21 +48,23 @@ plan-spec =
     (λ c κs. search needs)
     (λ c κs. search needs)
     (λ c κs. search needs)
-    (λ c. let t = c .before .before .before in let u = t .before .before .before .before .before in start-within (u .args .c) (asked u) (u .args .tx .now) (u .args .at) refl (agreed t))
-    (λ c. let t = c .before .before .before in let u = t .before .before .before .before .before in start-within (u .args .c) (asked u) (u .args .tx .now) (u .args .at) refl (agreed t))
+    (λ c. let t = c .before .before in let u = t .before .before .before .before .before in start-within (u .args .c) (asked u) (u .args .tx .now) (u .args .at) refl (agreed t))
+    (λ c. let t = c .before .before in let u = t .before .before .before .before .before in start-within (u .args .c) (asked u) (u .args .tx .now) (u .args .at) refl (agreed t))
     (λ c. search needs)
     (λ c κs.
-    let t = c .before .before .before .before in
-    let u = t .before .before .before .before .before in
-    in-part (u .args .c) (asked u) (u .args .tx .now) (u .args .at) refl (agreed t) (c .before .before .locate .result) (c .before .new-byte .result) (c .before .before .locate .ensures) (c .before .new-byte .ensures))
-    (λ c κs. search needs)
+    let h = c .before in
+    let t = h .before .before in
+    let u = t .before .before .before .before .before in (
+      has-passed (u .args .c) (asked u) (u .args .tx .now) (u .args .at) refl (agreed t) .takes,
+      in-part (u .args .c) (asked u) (u .args .tx .now) (u .args .at) refl (agreed t) (h .change .result) (h .change .ensures),
+    ))
     (λ c. search needs)
     (λ c.
-    let w = c .before .before .before in
-    let n = w .before .before in
-    let t = n .before .before .before in
+    let p = c .before .before in
+    let h = p .before .before in
+    let t = h .before .before in
     let u = t .before .before .before .before .before in (
-      planned-in (u .args .c) (asked u) (u .args .tx .now) (u .args .at) refl (agreed t) (n .before .locate .result) (n .new-byte .result) (n .before .locate .ensures) (n .new-byte .ensures) _ _ _ (w .write-plan .ensures .0) (w .write-plan .ensures .1) (c .change .ensures),
+      planned-in (u .args .c) (asked u) (u .args .tx .now) (u .args .at) refl (agreed t) _ _ _ (h .before .plan-length .ensures) (h .change .ensures) (p .write-plan .ensures),
       formed u,
     ))
     (λ c. search needs)

@@ -31,10 +31,10 @@ refuse-spec =
     walked (refusals (a .c) (fieldOf (a .c .registers)) (record { party = a .party; request = a .request; room = a .room })) refl (c .first-of .ensures)
     (λ i. says invalidState (v .before .before .before .when .ensures) (u .before .before .before .is-valid .ensures) i
     ∷ says unknownParty (v .before .before .when2 .ensures) (u .before .before .is-known .ensures) i
-    ∷ says unknownField (v .before .when3 .ensures) (u .before .is-field .ensures) i
+    ∷ says unknownField (v .before .when3 .ensures) (u .before .is-known-field .ensures) i
     ∷ says wrongChannel (v .when4 .ensures) (u .takes-channel .ensures) i
     ∷ says notOwner (w .before .before .before .when5 .ensures) (t .before .before .before .is-field-owner .ensures) i
-    ∷ says badValue (w .before .before .when6 .ensures) (t .before .before .is-legal .ensures) i
+    ∷ says badValue (w .before .before .when6 .ensures) (t .before .before .are-legal .ensures) i
     ∷ says notWaiting (w .before .when7 .ensures) (t .before .is-waiting .ensures) i
     ∷ (w .when8 .ensures ∙ ap (λ (n : ℕ). given (ltb (a .room) n) noRoom) (t .plan-length .ensures)) i
     ∷ [])))

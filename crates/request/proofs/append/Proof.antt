@@ -6,6 +6,7 @@ use lib.Seq.{length-take-le}
 use Prim.Native.Nat.{_-_}
 use Rattle.leb128.specs.Numbers.{groups}
 use Rattle.leb128.proofs.RoundTrip.{round-trip}
+use Rattle.request.specs.Requests.{longest}
 use Rattle.request.specs.Writing.{contents}
 use Rattle.request.proofs.Padding.{used-more, appended}
 use Rattle.request.proofs.append.Statement.{statement}
@@ -24,16 +25,16 @@ part-all-start : tie.Need-part-all-start
 part-all-start c = search needs
 
 part-all-end : tie.Need-part-all-end
-part-all-end c = let n : length (c .before .before .before .before .args .before .bytes) ≡ 6 = search needs in omega arith
+part-all-end c = let n : length (c .before .before .before .before .args .before .bytes) ≡ longest = search needs in omega arith
 
 copy-requires : tie.Need-copy-requires
 copy-requires c κs =
     let u = c .before .before .before .before in
     let b = u .before .args .before in
-    let n : length (b .bytes) ≡ 6 = search needs in
-    let m : length (u .encode .result .bytes) ≡ 2 = search needs in
+    let n : length (b .bytes) ≡ longest = search needs in
+    let m : length (u .encode .result .bytes) ≡ groups = search needs in
     let d = length-drop (b .used) (b .bytes) in
-    let t = length-take-le (6 - b .used) (drop (b .used) (b .bytes)) (omega arith) in
+    let t = length-take-le (longest - b .used) (drop (b .used) (b .bytes)) (omega arith) in
     omega arith
 
 add-t7 : tie.Need-add-t7

@@ -1,67 +1,21 @@
 use borrow.Author.Needs.{needs}
-use mathlib.Core.Path.{_∙_}
 use native.Mathlib.Omega.{arith}
-use Rattle.request.proofs.Reading.{within-field, no-field, within-channel, no-channel, within-value, no-value, all-three}
+use mathlib.Core.Path.{ap, _∙_}
+use Prim.Native.Nat.{ℕ}
+use Rattle.request.specs.Reading.{seriesRead}
+use Rattle.request.proofs.Reading.{numbers-between, answers}
 use Rattle.request.proofs.read.Statement.{statement}
 use Rattle.request.proofs.read.Tie as tie
 
+read-series-requires : tie.Need-read-series-requires
+read-series-requires c κs = omega (arith, numbers-between (c .before .before .args .bytes .now) .1)
+
 returns : tie.Need-returns
-returns c = let f = c .before .before .before in c .refuse .ensures ∙ no-field (f .before .before .args .bytes .now) (f .read .result) (f .read .ensures) (c .before .if1 .taken)
-
-read-at-requires : tie.Need-read-at-requires
-read-at-requires c κs = let f = c .before .before in within-field (f .before .before .args .bytes .now) (f .read .result) (f .read .ensures)
-
-returns-2 : tie.Need-returns-2
-returns-2 c =
-    let n = c .before .before .before in
-    let f = n .before .before .before in
-    c .refuse2 .ensures ∙ no-channel (f .before .before .args .bytes .now) (f .read .result) (f .read .ensures) (n .read-at .result) (n .read-at .ensures) (n .before .if1 .left) (c .before .if2 .taken)
-
-add-after-channel : tie.Need-add-after-channel
-add-after-channel c =
-    let n = c .before .before .before in
-    let f = n .before .before .before in
-    omega (arith, within-channel (f .before .before .args .bytes .now) (f .read .result) (f .read .ensures) (n .read-at .result) (n .read-at .ensures))
-
-read-at-requires-2 : tie.Need-read-at-requires-2
-read-at-requires-2 c κs =
-    let n = c .before .before .before in
-    let f = n .before .before .before in
-    within-channel (f .before .before .args .bytes .now) (f .read .result) (f .read .ensures) (n .read-at .result) (n .read-at .ensures)
-
-returns-3 : tie.Need-returns-3
-returns-3 c =
-    let v = c .before .before .before in
-    let n = v .before .before .before .before in
-    let f = n .before .before .before in
-    c .refuse3 .ensures ∙ no-value (f .before .before .args .bytes .now) (f .read .result) (f .read .ensures) (n .read-at .result) (n .read-at .ensures) (v .read-at2 .result) (v .read-at2 .ensures) (n .before .if1 .left) (v .before .before .if2 .left) (c .before .if3 .taken)
-
-add-t9 : tie.Need-add-t9
-add-t9 c =
-    let v = c .before .before .before in
-    let n = v .before .before .before .before in
-    let f = n .before .before .before in
-    omega (arith, within-value (f .before .before .args .bytes .now) (f .read .result) (f .read .ensures) (n .read-at .result) (n .read-at .ensures) (v .read-at2 .result) (v .read-at2 .ensures))
-
-returns-4 : tie.Need-returns-4
-returns-4 c =
-    let v = c .before .before .before in
-    let n = v .before .before .before .before in
-    let f = n .before .before .before in
-    all-three (f .before .before .args .bytes .now) (f .read .result) (f .read .ensures) (n .read-at .result) (n .read-at .ensures) (v .read-at2 .result) (v .read-at2 .ensures) (n .before .if1 .left) (v .before .before .if2 .left) (c .before .if3 .left)
+returns c =
+    let s = c .before .before in
+    let bytes = s .before .before .before .args .bytes .now in
+    (λ i. record { refusal = s .read-series .result .refusal; request = c .request-of .ensures i; used = s .read-series .result .used })
+    ∙ answers bytes (s .read-series .result) (s .read-series .ensures ∙ ap (λ (count : ℕ). seriesRead count bytes) (s .before .count-numbers .ensures))
 
 pub read-spec : {M : Type 1} → statement M
-read-spec =
-    tie.close
-    (tie.spec
-    (λ c κs. search needs) (λ c κs. search needs)
-    returns
-    read-at-requires
-    (λ c κs. search needs)
-    returns-2
-    add-after-channel
-    read-at-requires-2
-    (λ c κs. search needs)
-    returns-3
-    add-t9
-    returns-4)
+read-spec = tie.close (tie.spec (λ c κs. search needs) read-series-requires (λ c κs. search needs) returns)

@@ -1,0 +1,29 @@
+-- The figures of a whole channel hold, by computation.
+use mathlib.Core.Path.{refl}
+use Rattle.bits.specs.Fields.{field, inserted}
+use Rattle.ads1299_serial.specs.Transfers.{countable}
+use Rattle.ads1299_registers.specs.Table.{powerUp}
+use Rattle.ads1299.specs.PowerUp.{validId, restored, poweredUp}
+use Rattle.ads1299.specs.Validity.{validConverter, valid}
+use Rattle.parties.specs.Parties.{knownParty}
+use Rattle.parties.specs.Owners.{ownerOf}
+use Rattle.ads1299_fields.specs.Table.{table, rowOf}
+use Rattle.ads1299_fields.specs.Names.{named}
+use Rattle.ads1299_fields.specs.Places.{place}
+use Rattle.ads1299_fields.specs.Values.{fits, legal, settable}
+use Rattle.ads1299_settings.specs.Registers.{writeAt, withField}
+use Rattle.ads1299_settings.specs.Settings.{withSettings}
+use Rattle.leb128.specs.Decoding.{decoded}
+use Rattle.leb128.specs.Series.{series}
+use Rattle.request.specs.Requests.{padded, requestOf}
+use Rattle.request.specs.Reading.{numbersIn, numbersRead, readRefusal, parsed}
+use Rattle.planner.specs.Settings.{settingsFrom, settings}
+use Rattle.planner.specs.Runs.{span, writingAll, runsLength}
+use Rattle.planner.specs.Refusals.{judged}
+use Rattle.planner.specs.Plan.{planWriting, registersAfter, planOf}
+use Rattle.planner.specs.Planned.{refusalOf, plan, planned}
+use Rattle.figures.specs.WholeChannel.{FiguresHold}
+
+pub figures-hold : FiguresHold
+unfolding field inserted countable powerUp validId restored poweredUp validConverter valid knownParty ownerOf table rowOf named place fits legal settable writeAt withField withSettings decoded series padded requestOf numbersIn numbersRead readRefusal parsed settingsFrom settings span writingAll runsLength judged planWriting registersAfter planOf refusalOf plan planned
+figures-hold = refl

@@ -1,0 +1,61 @@
+-- The loop keeps that the values that are left decide.
+use borrow.Author.Needs.{needs}
+use native.Mathlib.Omega.{arith}
+use Prim.Native.Nat.{ℕ, _+_, _-_, _≤_}
+use mathlib.Core.Bool.{_&&_}
+use mathlib.Core.Path.{_≡_, sym, ap, _∙_}
+use Rattle.request.specs.Requests.{valueCount}
+use Rattle.planner.specs.Settings.{settingsFrom, settings, allLegal}
+use Rattle.planner.proofs.Settings.{few-values, settings-step, settings-end}
+use Rattle.planner.proofs.are_legal.Statement.{statement}
+use Rattle.planner.proofs.are_legal.Tie as tie
+
+abbrev Inv-loop : tie.InvT-loop
+Inv-loop request count values i₀ i = (count ≡ valueCount (request .field)) × ((i ≤ count) × (allLegal (settings request) ≡ allLegal (settingsFrom request i (count - i))))
+
+abbrev μ-loop : tie.MeasureT-loop
+μ-loop request count values i₀ i = count - i
+
+loop-holds : tie.Need-loop-holds Inv-loop μ-loop
+unfolding settings
+loop-holds c =
+    let e = c .before .count-values .ensures in
+    let r = c .before .before .args .request in
+    let z : c .before .count-values .result - 0 ≡ valueCount (r .field) = omega (arith, e) in
+    (e, (omega arith, sym (ap (λ (n : ℕ). allLegal (settingsFrom r 0 n)) z)))
+
+-- a value's place is within the array
+value-within : (c : tie.In-loop Inv-loop μ-loop) → c .before .loop .i ≤ 8
+value-within c = let l = c .before in omega (arith, l .loop .inv .0, few-values (l .before .before .before .args .request), c .loop-test .taken)
+
+-- the test of one value, and the rest
+tested : (c : tie.After-is-legal Inv-loop μ-loop) → let l = c .before .before .before in let r = l .before .before .before .args .request in
+    allLegal (settings r) ≡ (c .is-legal .result && allLegal (settingsFrom r (l .loop .i + 1) (l .before .before .count-values .result - (l .loop .i + 1))))
+tested c =
+    let l = c .before .before .before in
+    let r = l .before .before .before .args .request in
+    l .loop .inv .1 .1 ∙ ap allLegal (settings-step r (l .before .before .count-values .result) (l .loop .i) (c .before .before .loop-test .taken))
+    ∙ simp (c .is-legal .ensures, c .before .field-at .ensures)
+
+pub are-legal-spec : {M : Type 1} → statement M
+are-legal-spec =
+    tie.close
+    (tie.spec
+    Inv-loop
+    μ-loop
+    (λ c κs. search needs)
+    loop-holds
+    (λ c κs. omega (arith, value-within c))
+    (λ c. omega (arith, value-within (c .before)))
+    (λ c. omega (arith, value-within (c .before)))
+    (λ c κs. search needs)
+    (λ c. omega (arith, value-within (c .before .before .before)))
+    (λ c. omega (arith, c .before .before .before .loop-test .taken))
+    (λ c.
+    let l = c .before .before .before .before in
+    (l .loop .inv .0, (omega (arith, c .before .before .before .loop-test .taken), tested (c .before) ∙ simp (c .if1 .taken))))
+    (λ c. sym (tested (c .before) ∙ simp (c .if1 .left)))
+    (λ c.
+    let l = c .before in
+    let r = l .before .before .before .args .request in
+    sym (l .loop .inv .1 .1 ∙ ap allLegal (settings-end r (l .before .before .count-values .result) (l .loop .i) (c .loop-test .left)))))

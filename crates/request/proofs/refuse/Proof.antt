@@ -1,9 +1,0 @@
-use Rattle.request.proofs.refuse.Statement.{statement}
-use Rattle.request.proofs.refuse.Tie as tie
-use mathlib.Core.Path.{refl}
-
-pub refuse-spec : {M : Type 1} → statement M
-refuse-spec =
-    tie.close
-    (tie.spec
-    (λ c. refl))
