@@ -1,12 +1,13 @@
 -- Merges of the parties' lists, and what is to be told about one party's requests in a merge.
-use Prim.Native.Nat.{ℕ}
+use Prim.Native.Nat.{ℕ, _<_}
 use mathlib.Core.Path.{_≡_}
 use mathlib.Core.Bool.{Bool, true, false, cond, _&&_}
 use mathlib.Core.List.{List, [], _∷_, _++_, getLastD}
-use lib.Dec.{eqb, ltb}
+use lib.Dec.{eqb, leb, ltb}
 use lib.ListN.{getD}
 use Rattle.cases.specs.Every.{some}
 use Rattle.refusal.specs.First.{accepted}
+use Rattle.ads1299_registers.specs.Addresses.{registerCount, BIAS_SENSP, LOFF_FLIP}
 use Rattle.ads1299.specs.declared.Converter.{Converter}
 use Rattle.ads1299_fields.specs.Table.{Row, table}
 use Rattle.ads1299_fields.specs.Names.{named}
@@ -76,6 +77,10 @@ Own s party r i =
 -- register r has a bit for each channel, and so bits of several parties
 abbrev pub spread : ℕ → Bool
 spread r = some (λ (row : Row). ltb 0 (row .bitStep) && eqb (row .register) r) table
+
+-- Registers 0D to 11 have a bit for each channel, and no other register has.
+abbrev pub SpreadRegisters : Type 0
+SpreadRegisters = (r : ℕ) → r < registerCount → spread r ≡ (leb BIAS_SENSP r && leb r LOFF_FLIP)
 
 -- two plans of one request with its number: no bytes where it is refused; else both write the request's runs, of two lists of registers,
 -- which agree in every bit that no other party's field has, and wholly in each written register that has no bits of several parties

@@ -15,7 +15,7 @@ use Rattle.ads1299_settings.specs.Settings.{Setting, Values, withValue, withVal
 use Rattle.ads1299_settings.proofs.Registers.{legal-settable}
 use Rattle.ads1299_settings.proofs.Settings.{unset-values}
 use Rattle.request.specs.declared.Request.{Request}
-use Rattle.request.specs.Requests.{mostValues, valueCount}
+use Rattle.request.specs.Requests.{valueCount}
 use Rattle.planner.specs.Settings.{settingAt, settingsFrom, settings, allLegal}
 use Rattle.parties.specs.Owners.{ownerOf}
 use Rattle.planner.specs.Refusals.{fieldOwner}
@@ -70,9 +70,6 @@ all-settable n (a ∷ rest) names values =
     rw (legal-settable (a .field) n (a .value) (k .0) (l .0), all-settable n rest (k .1) (l .1))
 
 -- the settings one by one, as the code goes through them
-pub few-values : (r : Request) → valueCount (r .field) ≤ mostValues
-few-values r = split (eqb (r .field) wholeChannel) (λ w. rw w (omega arith)) (λ w. rw w (omega arith))
-
 pub settings-step : (r : Request) (count i : ℕ) → i < count → settingsFrom r i (count - i) ≡ settingAt r i ∷ settingsFrom r (i + 1) (count - (i + 1))
 unfolding settingsFrom
 settings-step r count i h =

@@ -1,21 +1,26 @@
 // From a setting request to the bytes that the converter is sent.
+mod fields;
+mod lengths;
+
+use fields::are_legal;
+use fields::set_all;
+use lengths::count_room;
+use lengths::plan_length;
 ghost use mathlib.Core.Bool.{true};
 ghost use mathlib.Core.Path.{_≡_};
 ghost use Prim.Native.Nat.{_+_, _<_, _≤_};
 ghost use lib.Dec.{eqb};
 ghost use lib.ListN.{length};
+ghost use Rattle.splice.specs.Splice.{spliced};
 ghost use Rattle.ads1299_registers.specs.Addresses.{registerCount};
 ghost use Rattle.ads1299_fields.specs.Names.{takesChannel};
 ghost use Rattle.ads1299.specs.Formed.{Formed};
-ghost use Rattle.request.specs.Requests.{mostValues};
-ghost use Rattle.planner.specs.Submission.{roomAt, submission};
-ghost use Rattle.planner.specs.Settings.{settingAt, settings, allLegal};
+ghost use Rattle.planner.specs.Submission.{submission};
 ghost use Rattle.planner.specs.Runs.{run, runs, writing, writingAll, runsLength};
+ghost use Rattle.planner.specs.Plan.{only, planWriting, planLength};
 ghost use Rattle.planner.specs.Refusals.{fieldOwner};
-ghost use Rattle.planner.specs.Plan.{only, entering, leaving, registersAfter, planWriting, planLength};
 ghost use Rattle.planner.specs.Planned.{refusalOf, changed, planned};
 ghost use Rattle.planner.specs.Buffer.{txAfter};
-ghost use Rattle.splice.specs.Splice.{spliced};
 use ads1299::Converter;
 use ads1299_commands::RDATAC;
 use ads1299_commands::SDATAC;
@@ -54,88 +59,6 @@ fn is_field_owner(
     } else {
         parties::is_admin(party)
     }
-}
-
-// The field that value i of a request is for.
-fn field_at(request: Request, i: usize) -> u32
-    requires { ⌜ i < mostValues ⌝ }
-    ensures { λ r. ⌜ r ≡ settingAt request i .field ⌝ }
-{
-    if request.field == WHOLE_CHANNEL {
-        i as u32 + 1
-    } else {
-        request.field
-    }
-}
-
-// Whether every value is legal for its field. All are judged before a byte is written.
-fn are_legal(request: Request) -> bool
-    ensures { λ r. ⌜ r ≡ allLegal (settings request) ⌝ }
-{
-    let count = request::count_values(request.field);
-    let values = request.values;
-    let mut i = 0;
-    while i < count {
-        if ads1299_fields::is_legal(field_at(request, i), values[i]) {
-            i += 1;
-        } else {
-            return false;
-        }
-    }
-    true
-}
-
-// The registers with every setting of the request made.
-fn set_all(registers: [u8; COUNT], request: Request) -> [u8; COUNT]
-    ensures { λ r. ⌜ r ≡ registersAfter registers request ⌝ }
-{
-    let count = request::count_values(request.field);
-    let values = request.values;
-    let mut after = registers;
-    let mut done = 0;
-    while done < count {
-        let field = field_at(request, done);
-        let set = ads1299_settings::write(after, field, request.channel, values[done]);
-        after = set;
-        done += 1;
-    }
-    after
-}
-
-// How many bytes leave the modes that the converter is in and go back to them.
-fn count_modes(standby: bool, continuous: bool) -> usize
-    ensures { λ r. ⌜ r ≡ length (entering standby continuous) + length (leaving standby continuous) ⌝ }
-{
-    if standby {
-        if continuous { 4 } else { 2 }
-    } else {
-        if continuous { 2 } else { 0 }
-    }
-}
-
-// How many bytes write the request's registers: two for each run, and one for each register.
-fn count_written(request: Request) -> usize
-    ensures { λ r. ⌜ r ≡ runsLength (runs request) ⌝ }
-{
-    if request.field == WHOLE_CHANNEL {
-        10
-    } else {
-        3
-    }
-}
-
-// A plan's length depends on the modes and the field alone.
-fn plan_length(c: Converter, request: Request) -> usize
-    ensures { λ r. ⌜ r ≡ planLength c request ⌝ }
-{
-    count_modes(c.standby, c.continuous) + count_written(request)
-}
-
-// The bytes from a place on, counted without a sum that could wrap.
-fn count_room(tx: &[u8], at: usize) -> usize
-    ensures { λ r. ⌜ r ≡ roomAt (now (tx .entry)) at ⌝ }
-{
-    if tx.len() < at { 0 } else { tx.len() - at }
 }
 
 // The tests in the order of document 01: the owner before the value, so that a stranger does not learn what is legal.

@@ -6,9 +6,10 @@ use mathlib.Core.Bool.{_&&_}
 use mathlib.Core.Path.{_≡_, sym, ap, _∙_}
 use Rattle.request.specs.Requests.{valueCount}
 use Rattle.planner.specs.Settings.{settingsFrom, settings, allLegal}
-use Rattle.planner.proofs.Settings.{few-values, settings-step, settings-end}
-use Rattle.planner.proofs.are_legal.Statement.{statement}
-use Rattle.planner.proofs.are_legal.Tie as tie
+use Rattle.request.proofs.Reading.{few-values}
+use Rattle.planner.proofs.Settings.{settings-step, settings-end}
+use Rattle.planner.proofs.fields.are_legal.Statement.{statement}
+use Rattle.planner.proofs.fields.are_legal.Tie as tie
 
 abbrev Inv-loop : tie.InvT-loop
 Inv-loop request count values i₀ i = (count ≡ valueCount (request .field)) × ((i ≤ count) × (allLegal (settings request) ≡ allLegal (settingsFrom request i (count - i))))
@@ -26,7 +27,7 @@ loop-holds c =
 
 -- a value's place is within the array
 value-within : (c : tie.In-loop Inv-loop μ-loop) → c .before .loop .i ≤ 8
-value-within c = let l = c .before in omega (arith, l .loop .inv .0, few-values (l .before .before .before .args .request), c .loop-test .taken)
+value-within c = let l = c .before in omega (arith, l .loop .inv .0, few-values (l .before .before .before .args .request .field) .1, c .loop-test .taken)
 
 -- the test of one value, and the rest
 tested : (c : tie.After-is-legal Inv-loop μ-loop) → let l = c .before .before .before in let r = l .before .before .before .args .request in

@@ -1,8 +1,8 @@
 use borrow.Author.Needs.{needs}
 use native.Mathlib.Omega.{arith}
 use Rattle.planner.proofs.Length.{few-modes, few-runs}
-use Rattle.planner.proofs.plan_length.Statement.{statement}
-use Rattle.planner.proofs.plan_length.Tie as tie
+use Rattle.planner.proofs.lengths.plan_length.Statement.{statement}
+use Rattle.planner.proofs.lengths.plan_length.Tie as tie
 
 pub plan-length-spec : {M : Type 1} → statement M
 plan-length-spec =

@@ -1,7 +1,7 @@
 use borrow.Author.Tests.{eq-eqb, ne-eqb}
 use Rattle.planner.specs.Runs.{runsLength}
-use Rattle.planner.proofs.count_written.Statement.{statement}
-use Rattle.planner.proofs.count_written.Tie as tie
+use Rattle.planner.proofs.lengths.count_written.Statement.{statement}
+use Rattle.planner.proofs.lengths.count_written.Tie as tie
 
 pub count-written-spec : {M : Type 1} → statement M
 unfolding runsLength

@@ -7,9 +7,10 @@ use Rattle.ads1299_settings.specs.Settings.{withSettings}
 use Rattle.request.specs.Requests.{valueCount}
 use Rattle.planner.specs.Settings.{settingsFrom, settings}
 use Rattle.planner.specs.Plan.{registersAfter}
-use Rattle.planner.proofs.Settings.{few-values, settings-step, settings-end}
-use Rattle.planner.proofs.set_all.Statement.{statement}
-use Rattle.planner.proofs.set_all.Tie as tie
+use Rattle.request.proofs.Reading.{few-values}
+use Rattle.planner.proofs.Settings.{settings-step, settings-end}
+use Rattle.planner.proofs.fields.set_all.Statement.{statement}
+use Rattle.planner.proofs.fields.set_all.Tie as tie
 
 abbrev Inv-loop : tie.InvT-loop
 Inv-loop request count values after₀ done₀ after done =
@@ -30,7 +31,7 @@ loop-holds c =
 
 -- a value's place is within the array
 value-within : (c : tie.In-loop Inv-loop μ-loop) → c .before .loop .done ≤ 8
-value-within c = let l = c .before in omega (arith, l .loop .inv .0, few-values (l .before .before .before .args .request), c .loop-test .taken)
+value-within c = let l = c .before in omega (arith, l .loop .inv .0, few-values (l .before .before .before .args .request .field) .1, c .loop-test .taken)
 
 -- one setting made, and the rest
 made : tie.Need-loop-again Inv-loop μ-loop

@@ -1,7 +1,7 @@
 use borrow.Author.Needs.{needs}
 use borrow.Author.Tests.{eq-eqb, ne-eqb}
-use Rattle.planner.proofs.field_at.Statement.{statement}
-use Rattle.planner.proofs.field_at.Tie as tie
+use Rattle.planner.proofs.fields.field_at.Statement.{statement}
+use Rattle.planner.proofs.fields.field_at.Tie as tie
 
 pub field-at-spec : {M : Type 1} → statement M
 field-at-spec =

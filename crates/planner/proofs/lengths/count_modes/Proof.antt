@@ -1,5 +1,5 @@
-use Rattle.planner.proofs.count_modes.Statement.{statement}
-use Rattle.planner.proofs.count_modes.Tie as tie
+use Rattle.planner.proofs.lengths.count_modes.Statement.{statement}
+use Rattle.planner.proofs.lengths.count_modes.Tie as tie
 
 pub count-modes-spec : {M : Type 1} → statement M
 count-modes-spec =
