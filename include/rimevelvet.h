@@ -226,8 +226,14 @@ rimevelvet_written rimevelvet_request_write(rimevelvet_request request, uint8_t 
 rimevelvet_planned rimevelvet_plan(rimevelvet_converter state, uint32_t party, rimevelvet_request request, uint8_t *tx,
                                    size_t tx_length, size_t at);
 
-/* The room that a transcript needs, however long the input is. */
-#define RIMEVELVET_LONGEST_TRANSCRIPT 60060
+/* The most bytes of the program's input; more is refused whole. */
+#define RIMEVELVET_INPUT_LIMIT 4096
+
+/*
+ * The room that a transcript needs, however long the input is: a byte of the input is the party, and every three after it may be a
+ * request, whose line has a digit, three characters for each byte of a plan, and a newline.
+ */
+#define RIMEVELVET_LONGEST_TRANSCRIPT ((RIMEVELVET_INPUT_LIMIT - 1) / 3 * (3 * RIMEVELVET_LONGEST_PLAN + 2))
 
 /*
  * Writes what the program prints for an input to the start of `out`, which has RIMEVELVET_LONGEST_TRANSCRIPT bytes, and gives its

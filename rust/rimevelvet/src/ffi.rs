@@ -108,8 +108,10 @@ pub const VALUES: usize = 9;
 pub const LONGEST_REQUEST: usize = 21;
 /// The bytes of the longest plan: a whole channel's, in standby and continuous mode.
 pub const LONGEST_PLAN: usize = 14;
+/// The most bytes of the program's input.
+const INPUT_LIMIT: usize = 4096;
 /// The room that a transcript needs, however long the input is.
-pub const LONGEST_TRANSCRIPT: usize = 60_060;
+pub const LONGEST_TRANSCRIPT: usize = (INPUT_LIMIT - 1) / 3 * (3 * LONGEST_PLAN + 2);
 
 extern "C" {
     pub fn rimevelvet_power_up(id: u8) -> PoweredUp;
