@@ -11,7 +11,7 @@ use Rattle.cases.proofs.Cases.{split, either}
 use Rattle.cases.proofs.Every.{follows}
 use Rattle.bits.proofs.Masks.{passes-same}
 use Rattle.refusal.specs.First.{accepted}
-use Rattle.ads1299_registers.specs.Addresses.{ID, BIAS_SENSP, LOFF_FLIP, registerCount}
+use Rattle.ads1299_registers.specs.Addresses.{ID, registerCount}
 use Rattle.ads1299_registers.specs.Table.{masks}
 use Rattle.ads1299_serial.specs.declared.Output.{Output}
 use Rattle.ads1299_serial.specs.declared.Output.the-variants.{Empty}
@@ -33,7 +33,7 @@ use Rattle.ads1299_fields.specs.Names.{wholeChannel}
 use Rattle.request.specs.declared.Request.{Request}
 use Rattle.planner.specs.Submission.{Submission}
 use Rattle.planner.specs.Settings.{settings}
-use Rattle.planner.specs.Runs.{Run, run, channelRegister, runs, writingAll, inRuns}
+use Rattle.planner.specs.Runs.{Run, run, channelRegister, channelBits, runs, writingAll, inRuns}
 use Rattle.planner.specs.Plan.{entering, leaving, around, registersAfter, planWriting, planOf}
 use Rattle.planner.specs.Planned.{refusalOf, changed, plan, planned}
 use Rattle.planner.proofs.Accepted.{next, Passed, passed, all-written}
@@ -93,7 +93,7 @@ module _ (s : Converter) (h : Formed s) (x : Submission) (p : Passed s x) where
 some-run : (r : Request) → (x : Run) × (more : List Run) × (runs r ≡ x ∷ more)
 some-run r =
     split (eqb (r .field) wholeChannel)
-    (λ w. (run (channelRegister (r .channel)) 0, run BIAS_SENSP (LOFF_FLIP - BIAS_SENSP) ∷ [], rw w))
+    (λ w. (run (channelRegister (r .channel)) 0, channelBits ∷ [], rw w))
     (λ w. (run (place (r .field) (r .channel) .register) 0, [], rw w))
 
 pub sent-plan : (s : Converter) → Formed s → (x : Submission) → after s (plan s x) ≡ next s x

@@ -5,12 +5,12 @@ use mathlib.Core.Bool.{true, false}
 use mathlib.Core.List.{List, [], _∷_, _++_, append-nil}
 use native.Mathlib.Omega.{arith}
 use lib.Dec.{eqb}
-use Rattle.ads1299_registers.specs.Addresses.{BIAS_SENSP, LOFF_FLIP, registerCount}
+use Rattle.ads1299_registers.specs.Addresses.{registerCount}
 use Rattle.ads1299_fields.specs.Names.{wholeChannel}
 use Rattle.ads1299_fields.specs.Places.{place}
 use Rattle.ads1299_fields.proofs.Apart.{place-in-list}
 use Rattle.request.specs.declared.Request.{Request}
-use Rattle.planner.specs.Runs.{Run, run, channelRegister, runs, writing, writingAll}
+use Rattle.planner.specs.Runs.{Run, run, channelRegister, channelBits, runs, writing, writingAll}
 
 -- one run and two, as lists of runs
 one-run : (registers : List ℕ) (x : Run) → writingAll registers (x ∷ []) ≡ writing registers x
@@ -23,8 +23,8 @@ two-runs registers x y = ap (λ (l : List ℕ). writing registers x ++ l) (appen
 
 module _ (registers : List ℕ) (r : Request) where
   pub whole-bytes : eqb (r .field) wholeChannel ≡ true
-      → writingAll registers (runs r) ≡ writing registers (run (channelRegister (r .channel)) 0) ++ writing registers (run BIAS_SENSP (LOFF_FLIP - BIAS_SENSP))
-  whole-bytes w = rw w (two-runs registers (run (channelRegister (r .channel)) 0) (run BIAS_SENSP (LOFF_FLIP - BIAS_SENSP)))
+      → writingAll registers (runs r) ≡ writing registers (run (channelRegister (r .channel)) 0) ++ writing registers channelBits
+  whole-bytes w = rw w (two-runs registers (run (channelRegister (r .channel)) 0) channelBits)
 
   pub field-bytes : eqb (r .field) wholeChannel ≡ false → writingAll registers (runs r) ≡ writing registers (run (place (r .field) (r .channel) .register) 0)
   field-bytes w = rw w (one-run registers (run (place (r .field) (r .channel) .register) 0))

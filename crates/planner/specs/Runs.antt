@@ -24,9 +24,13 @@ run first further = record { first = first; further = further }
 abbrev pub channelRegister : ℕ → ℕ
 channelRegister n = CH1SET + (n - 1)
 
+-- gives the run of 0D to 11, the registers with a bit for each channel
+abbrev pub channelBits : Run
+channelBits = run BIAS_SENSP (LOFF_FLIP - BIAS_SENSP)
+
 -- gives the runs of a whole channel: CHnSET, and then 0D to 11 in one
 abbrev pub wholeRuns : ℕ → List Run
-wholeRuns n = run (channelRegister n) 0 ∷ run BIAS_SENSP (LOFF_FLIP - BIAS_SENSP) ∷ []
+wholeRuns n = run (channelRegister n) 0 ∷ channelBits ∷ []
 
 -- gives the runs of a request: a whole channel's, or the field's register
 abbrev pub runs : Request → List Run

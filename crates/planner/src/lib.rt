@@ -16,7 +16,7 @@ ghost use Rattle.ads1299_registers.specs.Addresses.{registerCount};
 ghost use Rattle.ads1299_fields.specs.Names.{takesChannel};
 ghost use Rattle.ads1299.specs.Formed.{Formed};
 ghost use Rattle.planner.specs.Submission.{submission};
-ghost use Rattle.planner.specs.Runs.{run, runs, writing, writingAll, runsLength};
+ghost use Rattle.planner.specs.Runs.{run, channelBits, runs, writing, writingAll, runsLength};
 ghost use Rattle.planner.specs.Plan.{only, planWriting, planLength};
 ghost use Rattle.planner.specs.Refusals.{fieldOwner};
 ghost use Rattle.planner.specs.Planned.{refusalOf, changed, planned};
@@ -123,6 +123,16 @@ fn put_run(tx: &mut [u8], at: usize, registers: [u8; COUNT], first: u8, further:
     put(tx, data, &registers[start..end])
 }
 
+// Writes the bytes that write 0D to 11, the registers with a bit for each channel, in one run, and gives the place after them.
+fn put_channel_bits(tx: &mut [u8], at: usize, registers: [u8; COUNT]) -> usize
+    requires { ⌜ at + 7 ≤ length (now tx) ⌝ }
+    ensures { λ r. ⌜ (r ≡ at + length (writing registers channelBits))
+        × (now (tx .exit) ≡ spliced (now (tx .entry)) at (writing registers channelBits)) ⌝ }
+{
+    let further = (LOFF_FLIP - BIAS_SENSP) as u8;
+    put_run(tx, at, registers, BIAS_SENSP as u8, further)
+}
+
 // Writes the bytes that write the request's runs, and gives the place after them.
 fn put_runs(tx: &mut [u8], at: usize, registers: [u8; COUNT], request: Request) -> usize
     requires { ⌜ (takesChannel (request .field) (request .channel) ≡ true) × (at + runsLength (runs request) ≤ length (now tx)) ⌝ }
@@ -132,13 +142,7 @@ fn put_runs(tx: &mut [u8], at: usize, registers: [u8; COUNT], request: Request) 
     if request.field == WHOLE_CHANNEL {
         let set = (CH1SET + request.channel as usize - 1) as u8;
         let place = put_run(tx, at, registers, set, 0);
-        return put_run(
-            tx,
-            place,
-            registers,
-            BIAS_SENSP as u8,
-            (LOFF_FLIP - BIAS_SENSP) as u8,
-        );
+        return put_channel_bits(tx, place, registers);
     }
     let place = ads1299_fields::locate(request.field, request.channel);
     put_run(tx, at, registers, place.register, 0)

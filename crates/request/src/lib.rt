@@ -6,6 +6,7 @@ ghost use mathlib.Core.Path.{_≡_};
 ghost use Prim.Native.Nat.{_+_, _≤_};
 ghost use lib.ListN.{length};
 ghost use Rattle.leb128.specs.Numbers.{groups, largest};
+ghost use Rattle.leb128.specs.Decoding.{decoded};
 ghost use Rattle.leb128.specs.Encoding.{encoded};
 ghost use Rattle.leb128.specs.Series.{seriesBytes, writable};
 ghost use Rattle.request.specs.Requests.{mostNumbers, longest, valueCount, allNumbers, requestOf};
@@ -69,11 +70,18 @@ pub fn count_values(field: u32) -> usize
     }
 }
 
-// How many numbers are to be read: the field says it, whatever the channel.
+// The field, read ahead: it alone says how many numbers there are.
+fn read_field(bytes: &[u8]) -> leb128::Number
+    ensures { λ r. ⌜ r ≡ decoded groups (now (bytes .entry)) ⌝ }
+{
+    leb128::read(bytes)
+}
+
+// How many numbers are to be read, whatever the channel.
 fn count_numbers(bytes: &[u8]) -> usize
     ensures { λ r. ⌜ r ≡ numbersIn (now (bytes .entry)) ⌝ }
 {
-    let field = leb128::read(bytes);
+    let field = read_field(bytes);
     2 + count_values(field.value)
 }
 

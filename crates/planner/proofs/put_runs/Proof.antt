@@ -6,11 +6,11 @@ use mathlib.Core.Bool.{true}
 use mathlib.Core.Path.{_≡_, ap}
 use lib.Dec.{eqb}
 use lib.ListN.{length, length-append}
-use Rattle.ads1299_registers.specs.Addresses.{CH1SET, BIAS_SENSP, LOFF_FLIP}
+use Rattle.ads1299_registers.specs.Addresses.{CH1SET}
 use Rattle.ads1299_registers.proofs.Bounds.{Bounds, bounds}
 use Rattle.ads1299_fields.specs.Names.{wholeChannel}
 use Rattle.ads1299_fields.specs.Places.{place}
-use Rattle.planner.specs.Runs.{run, channelRegister, runs, writing}
+use Rattle.planner.specs.Runs.{run, channelRegister, channelBits, runs, writing}
 use Rattle.planner.proofs.Runs.{writing-length, all-length}
 use Rattle.planner.proofs.RunBytes.{whole-bytes, field-bytes, alone}
 use Rattle.planner.proofs.Settings.{whole-takes}
@@ -29,11 +29,11 @@ address : (c : tie.Then1) → let n = c .before .before .before .args .request .
 address c = let b = in-range c in omega (arith, b .low)
 
 fits : (c : tie.Then1) → let u = c .before .before .before in
-    u .args .at + (length (writing (u .args .registers) (run (channelRegister (u .args .request .channel)) 0)) + length (writing (u .args .registers) (run BIAS_SENSP (LOFF_FLIP - BIAS_SENSP)))) ≤ length (u .args .tx .now)
+    u .args .at + (length (writing (u .args .registers) (run (channelRegister (u .args .request .channel)) 0)) + length (writing (u .args .registers) channelBits)) ≤ length (u .args .tx .now)
 fits c =
     let u = c .before .before .before in
     let first = writing (u .args .registers) (run (channelRegister (u .args .request .channel)) 0) in
-    let second = writing (u .args .registers) (run BIAS_SENSP (LOFF_FLIP - BIAS_SENSP)) in
+    let second = writing (u .args .registers) channelBits in
     omega (arith, u .pre .1, ap length (whole-bytes (u .args .registers) (u .args .request) (whole c)), all-length (u .args .registers) (runs (u .args .request)), length-append first second)
 
 first-put : (c : tie.After-put-run) → let u = c .before .before .before .before .before .before in
@@ -53,21 +53,18 @@ put-runs-spec =
     let u = t .before .before .before in
     let b = in-range t in
     (omega (arith, b .high), omega (arith, fits t, writing-length (u .args .registers) (run (channelRegister (u .args .request .channel)) 0))))
-    (λ c. search needs)
-    (λ c. search needs)
-    (λ c. search needs)
     (λ c κs.
     let p = c .before .before .before in
     let t = p .before .before .before in
     let a = t .before .before .before .args in
-    (omega arith, omega (arith, fits t, writing-length (a .registers) (run BIAS_SENSP (LOFF_FLIP - BIAS_SENSP)), first-put p .place, put-size (first-put p) (omega (arith, fits t)))))
+    omega (arith, fits t, writing-length (a .registers) channelBits, first-put p .place, put-size (first-put p) (omega (arith, fits t))))
     (λ c. search needs)
     (λ c.
     let q = c .before .before in
     let p = q .before .before .before .before in
     let t = p .before .before .before in
     let u = t .before .before .before in
-    let both = put-both (first-put p) (put (q .put-run2 .ensures)) (fits t) in
+    let both = put-both (first-put p) (put (q .put-channel-bits .ensures)) (fits t) in
     rw (whole-bytes (u .args .registers) (u .args .request) (whole t)) (both .place, both .buffer))
     (λ c κs. search needs)
     (λ c κs.
@@ -85,4 +82,4 @@ put-runs-spec =
     let t = q .before .before .before in
     let u = t .before .before .before in
     let a = u .args in
-    rw (field-bytes (a .registers) (a .request) (ne-eqb _ _ (t .if1 .left))) (rw (q .before .before .locate .ensures) at (q .put-run3 .ensures))))
+    rw (field-bytes (a .registers) (a .request) (ne-eqb _ _ (t .if1 .left))) (rw (q .before .before .locate .ensures) at (q .put-run2 .ensures))))
