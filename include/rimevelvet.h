@@ -8,7 +8,7 @@
  * exactly as they were given. Where a call has several refusals, they are tried in the order named.
  *
  * A pointer points to as many elements as the length after it says, and is never NULL, even where the length is 0.
- * Party, field, channel and values may be any number; they are judged whole.
+ * Party, field, channel and values may be any number; those that count are judged whole.
  */
 #ifndef RIMEVELVET_H
 #define RIMEVELVET_H

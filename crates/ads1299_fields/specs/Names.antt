@@ -1,4 +1,4 @@
--- Which field and channel together name something.
+-- Which fields there are, and with which channel each is named.
 use mathlib.Core.Bool.{Bool, true, cond, _&&_, _||_}
 use Prim.Native.Nat.{ℕ, zero, suc, _+_}
 use lib.Dec.{leb, eqb}
@@ -26,7 +26,7 @@ isField f = leb 1 f && leb f fieldCount
 abbrev pub knownField : ℕ → Bool
 knownField f = isField f || eqb f wholeChannel
 
--- the field is a channel's: all of them, or one of the nine
+-- the field is a channel's: the nine together, or one of them
 abbrev pub channelField : ℕ → Bool
 channelField f = eqb f wholeChannel || (leb 1 f && leb f channelFieldCount)
 
@@ -34,11 +34,11 @@ channelField f = eqb f wholeChannel || (leb 1 f && leb f channelFieldCount)
 abbrev pub takesChannel : ℕ → ℕ → Bool
 takesChannel f n = cond (channelField f) (isChannel n) (eqb n 0)
 
--- the field and the channel name something
+-- the field and the channel name bits of a register; a whole channel has none as one
 unfoldable pub named : ℕ → ℕ → Bool
 named f n = isField f && takesChannel f n
 
--- the test passes at every field and channel that name something
+-- the test passes at every field and channel that name bits of a register
 unfoldable pub everyName : (ℕ → ℕ → Bool) → Bool
 everyName test = below (fieldCount + 1) (λ f. below (channelCount + 1) (λ n. cond (named f n) (test f n) true))
 

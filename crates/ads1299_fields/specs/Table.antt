@@ -1,4 +1,4 @@
--- The fields that a request can name, one row each (document 01, "Fields a slip can name").
+-- The fields that have a place in the registers, one row each (document 01, "Fields a slip can name").
 use mathlib.Core.List.{List, [], _∷_}
 use Prim.Native.Nat.{ℕ}
 use lib.ListN.{getD}

@@ -1,4 +1,4 @@
-// The fields that a request can name: with which channel, where each lies in the registers, and which values it takes. Every number
+// The fields of the registers: with which channel each is named, where it lies, and which values it takes. Every number
 // is judged as it comes, and never cut to a byte before.
 mod map;
 
@@ -9,7 +9,7 @@ ghost use Rattle.ads1299_fields.specs.Names.{isField, knownField, channe
 ghost use Rattle.ads1299_fields.specs.Places.{place};
 ghost use Rattle.ads1299_fields.specs.Values.{fits, legal, settable};
 
-// How many fields a request can name.
+// How many fields the registers have, by number.
 const FIELDS: u32 = 26;
 
 // Fields 1 to 9 are a channel's, the others are shared.
@@ -78,7 +78,7 @@ pub fn takes_channel(field: u32, channel: u32) -> bool
     }
 }
 
-// Whether the field and the channel name something.
+// Whether the field and the channel name bits of a register.
 fn is_named(field: u32, channel: u32) -> bool
     ensures { λ r. ⌜ r ≡ named field channel ⌝ }
 {
@@ -125,7 +125,7 @@ fn fits(field: u32, value: u32) -> bool
     value < 1u32 << width
 }
 
-// Whether a request may set the field to this value; false for an unknown field.
+// Whether a request may set the field to this value; false where the number is no field's.
 pub fn is_legal(field: u32, value: u32) -> bool
     ensures { λ r. ⌜ r ≡ legal field value ⌝ }
 {

@@ -52,7 +52,7 @@ const TABLE: [Entry; FIELDS as usize + 1] = [
     Entry(CONFIG4, 0, 1, 0, 1, NONE_REFUSED), // 26 PD_LOFF_COMP
 ];
 
-// The field's row; all 0 for an unknown field.
+// The field's row; all 0 where the number is no field's.
 pub(crate) fn look_up(field: u32) -> Entry
     ensures { λ r. ⌜ r ≡ entryOf (rowOf field) ⌝ }
 {

@@ -44,7 +44,7 @@ abbrev pub UnnamedUntouched : Type 0
 UnnamedUntouched = (l : List ℕ) (f n v : ℕ) → named f n ≡ false → Untouched l f n v
 
 -- each field reads as the settings leave it; every place with no bit of theirs, in whatever register, reads as before; the registers are
--- as many, and bytes still; and every register passes its mask whole, written over what it was
+-- as many, and bytes still; and each new byte, written through its register's mask over the old one, arrives unchanged
 pub record AllWritten (l : List ℕ) (n : ℕ) (given : List Setting) : Type 0 where
   pub fields : (f m : ℕ) → named f m ≡ true → fieldOf (withSettings l n given) f m ≡ withValues (fieldOf l) n given f m
   pub others : (j : Place) → allApart n given j ≡ true → readAt (withSettings l n given) j ≡ readAt l j

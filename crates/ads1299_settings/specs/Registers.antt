@@ -28,6 +28,6 @@ fieldOf l f n = readAt l (place f n)
 unfoldable pub withField : List ℕ → ℕ → ℕ → ℕ → List ℕ
 withField l f n v = cond (settable f n v) (writeAt l (place f n) v) l
 
--- gives the byte that a register write is to carry, so that field f of channel n is v; 0 where it cannot be set so
+-- gives the register of field f of channel n with v in the field; 0 where it cannot be set so
 unfoldable pub fieldByte : List ℕ → ℕ → ℕ → ℕ → ℕ
 fieldByte l f n v = cond (settable f n v) (newByte l (place f n) v) 0

@@ -1,1 +1,1 @@
-// Theorems only: cases on a test, and tests that are computed over a whole table.
+// Theorems only: cases on a test, tests over a list and over a whole table, tables of figures.

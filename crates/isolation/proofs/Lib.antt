@@ -1,4 +1,5 @@
 pub mod Held
+pub mod Unused
 pub mod OneList
 pub mod Own
 pub mod Spread

@@ -23,7 +23,7 @@ use Rattle.ads1299_settings.proofs.Settings.{same-values, unset-values}
 use Rattle.planner.specs.Submission.{Submission}
 use Rattle.planner.specs.Settings.{settings, sets}
 use Rattle.planner.specs.Refusals.{fieldOwner, refusals, judged}
-use Rattle.planner.proofs.Settings.{same-owner}
+use Rattle.planner.proofs.Settings.{one-owner}
 use Rattle.isolation.specs.Reference.{cellsAfter, cellsFrom, numbersFrom}
 use Rattle.isolation.specs.Merges.{from, answersTo, valuesFor, acceptedValues, Own}
 use Rattle.isolation.proofs.Held.{judged-own, Held}
@@ -71,7 +71,7 @@ module _ (s : Converter) (p : ℕ) where
       let owns : Setting → Bool = λ y. eqb (fieldOwner (s .owners) (y .field) (r .channel)) (fieldOwner (s .owners) (r .field) (r .channel)) in
       split (sets r f n)
       (λ q.
-      let w = both owns (λ (y : Setting). same (y .field) (r .channel) f n) (settings r) (same-owner (s .owners) r) q in
+      let w = both owns (λ (y : Setting). same (y .field) (r .channel) f n) (settings r) (one-owner (s .owners) r) q in
       let b = and-both (eqb (w .0 .field) f) (eqb (r .channel) n) (w .2) in
       let his : fieldOwner (s .owners) (w .0 .field) (r .channel) ≡ p = rw (eqb-true (w .0 .field) f (b .0), eqb-true (r .channel) n (b .1)) o in
       absurd (eqb-false (x .party) p e (owner-is s c x a ∙ sym (eqb-true _ _ (w .1)) ∙ his)))

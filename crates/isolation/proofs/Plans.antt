@@ -20,7 +20,7 @@ use Rattle.ads1299_settings.specs.Registers.{readAt}
 use Rattle.ads1299_settings.specs.Settings.{Setting, Values}
 use Rattle.ads1299_fields.proofs.Names.{every-at}
 use Rattle.ads1299_fields.proofs.Apart.{has}
-use Rattle.planner.proofs.Settings.{same-owner}
+use Rattle.planner.proofs.Settings.{one-owner}
 use Rattle.planner.proofs.Runs.{same-writing}
 use Rattle.planner.proofs.Coverage.{runs-cover}
 use Rattle.planner.specs.Submission.{Submission}
@@ -42,15 +42,15 @@ oneOwner f n g m =
     spread (place f n .register) || not (eqb (place g m .register) (place f n .register))
     || cond (channelField f) (channelField g && eqb m n) (not (channelField g))
 
-one-owners : everyName (λ f n. everyName (oneOwner f n)) ≡ true
+register-owners : everyName (λ f n. everyName (oneOwner f n)) ≡ true
 unfolding everyName named place rowOf table
-one-owners = refl
+register-owners = refl
 
-one-owner : (owners : List ℕ) (f n g m : ℕ) → named f n ≡ true → named g m ≡ true → spread (place f n .register) ≡ false → place g m .register ≡ place f n .register
+register-owner : (owners : List ℕ) (f n g m : ℕ) → named f n ≡ true → named g m ≡ true → spread (place f n .register) ≡ false → place g m .register ≡ place f n .register
     → fieldOwner owners g m ≡ fieldOwner owners f n
-one-owner owners f n g m hf hg e r =
+register-owner owners f n g m hf hg e r =
     let t = rw (e, eq-eqb (place g m .register) (place f n .register) r) at
-    (every-at (oneOwner f n) (every-at (λ f n. everyName (oneOwner f n)) one-owners f n hf) g m hg) in
+    (every-at (oneOwner f n) (every-at (λ f n. everyName (oneOwner f n)) register-owners f n hf) g m hg) in
     split (channelField f)
     (λ q. let b = and-both (channelField g) (eqb m n) (rw q at t) in rw (q, b .0, eqb-true m n (b .1)))
     (λ q. rw (q, not-true (channelField g) (rw q at t)))
@@ -73,10 +73,10 @@ own-register s t c x k p r inside e i f n name has-bit =
     let names : Setting → Bool = λ a. named (a .field) (q .channel) in
     let owns : Setting → Bool = λ a. eqb (fieldOwner (s .owners) (a .field) (q .channel)) (fieldOwner (s .owners) (q .field) (q .channel)) in
     let w = both (λ a. names a && owns a) (λ (a : Setting). eqb (place (a .field) (q .channel) .register) r) (settings q)
-    (every-both names owns (settings q) (p .names) (same-owner (s .owners) q)) (runs-cover q (p .takes) .needed r inside) in
+    (every-both names owns (settings q) (p .names) (one-owner (s .owners) q)) (runs-cover q (p .takes) .needed r inside) in
     let b = and-both (names (w .0)) (owns (w .0)) (w .1) in
     let at : place (w .0 .field) (q .channel) .register ≡ r = eqb-true _ _ (w .2) in
-    one-owner (s .owners) (w .0 .field) (q .channel) f n (b .0) name (rw at e) (sym (has (place f n) r i has-bit .in-register) ∙ sym at)
+    register-owner (s .owners) (w .0 .field) (q .channel) f n (b .0) name (rw at e) (sym (has (place f n) r i has-bit .in-register) ∙ sym at)
     ∙ eqb-true _ _ (b .1)
     ∙ ap (λ (u : Converter). fieldOwner (u .owners) (q .field) (q .channel)) (sym (k .rest)) ∙ sym (p .owner)
 

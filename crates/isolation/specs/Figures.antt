@@ -1,4 +1,4 @@
--- Worked figures: lists of two parties' requests for one register, in several orders and from several states.
+-- Worked figures: lists of two parties' requests for registers that they share, in several orders and from several states.
 use Prim.Native.Nat.{ℕ}
 use mathlib.Core.Bool.{false}
 use mathlib.Core.List.{List, [], _∷_}

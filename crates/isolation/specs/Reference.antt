@@ -2,6 +2,7 @@
 use Prim.Native.Nat.{ℕ}
 use mathlib.Core.Bool.{cond}
 use mathlib.Core.List.{List, [], _∷_}
+use mathlib.Core.Path.{_≡_}
 use Rattle.refusal.specs.First.{accepted}
 use Rattle.ads1299.specs.declared.Converter.{Converter}
 use Rattle.ads1299_settings.specs.Registers.{fieldOf}
@@ -9,6 +10,7 @@ use Rattle.ads1299_settings.specs.Settings.{Values, withValues}
 use Rattle.planner.specs.Submission.{Submission}
 use Rattle.planner.specs.Settings.{settings}
 use Rattle.planner.specs.Refusals.{judged}
+use Rattle.planner.specs.Unused.{numbered}
 
 -- gives the answer to a request: the first refusal that applies, by the cells and else by the first state, or 0
 abbrev pub referenceNumber : Converter → Values → Submission → ℕ
@@ -40,3 +42,8 @@ referenceNumbers first l = numbersFrom first (firstCells first) l
 -- gives the reference model's cells after a list of requests
 abbrev pub referenceCells : Converter → List Submission → Values
 referenceCells first l = cellsFrom first (firstCells first) l
+
+-- The reference model looks at no value that a request's field does not use.
+pub record UnusedByReference : Type 0 where
+  pub same-number : (first : Converter) (cells : Values) (x : Submission) → referenceNumber first cells (numbered x) ≡ referenceNumber first cells x
+  pub same-cells : (first : Converter) (cells : Values) (x : Submission) (f n : ℕ) → cellsAfter first cells (numbered x) f n ≡ cellsAfter first cells x f n

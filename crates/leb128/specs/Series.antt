@@ -30,7 +30,7 @@ followedBy number rest =
       used = number .used + rest .used;
     }
 
--- gives the series of so many numbers that the bytes start with
+-- gives the series of so many numbers that the bytes start with; what follows a refused number means nothing
 unfoldable pub series : ℕ → ℕ → List ℕ → Series
 series k zero bytes = record { refusals = []; numbers = []; used = 0 }
 series k (suc count) bytes = followedBy (decoded k bytes) (series k count (drop (decoded k bytes .used) bytes))

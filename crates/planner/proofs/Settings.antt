@@ -19,6 +19,7 @@ use Rattle.request.specs.Requests.{valueCount}
 use Rattle.planner.specs.Settings.{settingAt, settingsFrom, settings, allLegal}
 use Rattle.parties.specs.Owners.{ownerOf}
 use Rattle.planner.specs.Refusals.{fieldOwner}
+use Rattle.planner.specs.OneOwner.{OneOwner}
 
 -- the fields of a whole channel, in the order of their values
 abbrev pub channelFields : List ℕ
@@ -53,10 +54,9 @@ all-named r known takes =
     (λ w. rw (whole-takes r w takes))
     (λ w. rw (one-known (r .field) w known, takes))
 
--- what it sets has its owner
-pub same-owner : (owners : List ℕ) (r : Request)
-    → every (λ (a : Setting). eqb (fieldOwner owners (a .field) (r .channel)) (fieldOwner owners (r .field) (r .channel))) (settings r) ≡ true
-same-owner owners r =
+-- all that a request sets has one owner
+pub one-owner : OneOwner
+one-owner owners r =
     every-field r (λ f. eqb (fieldOwner owners f (r .channel)) (fieldOwner owners (r .field) (r .channel)))
     (λ w. rw (eqb-true (r .field) wholeChannel w, eq-eqb (ownerOf owners (r .channel)) (ownerOf owners (r .channel)) refl))
     (λ w. eq-eqb (fieldOwner owners (r .field) (r .channel)) (fieldOwner owners (r .field) (r .channel)) refl)

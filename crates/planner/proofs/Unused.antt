@@ -7,7 +7,14 @@ use lib.ListN.{length, take, getD, replicate}
 use Rattle.request.specs.declared.Request.{Request}
 use Rattle.request.specs.Requests.{mostValues, valueCount, padded, numbersOf, requestOf}
 use Rattle.planner.specs.Settings.{settingAt, settingsFrom, settings}
-use Rattle.planner.specs.Unused.{UnusedValues}
+use Rattle.ads1299.specs.declared.Converter.{Converter}
+use Rattle.ads1299_settings.specs.Registers.{fieldOf}
+use Rattle.ads1299_settings.specs.Settings.{Values}
+use Rattle.planner.specs.Submission.{Submission}
+use Rattle.planner.specs.Refusals.{judged}
+use Rattle.planner.specs.Plan.{planWriting, registersAfter, planOf}
+use Rattle.planner.specs.Planned.{refusalOf, changed, plan, planned}
+use Rattle.planner.specs.Unused.{numbered, UnusedValues}
 
 -- 0 past a list's end is what it has there anyway
 zero-there : (n i : ℕ) → _≡_ {A = ℕ} (getD (replicate n 0) i 0) 0
@@ -34,6 +41,21 @@ same-from r (suc more) i le =
     let e : getD (padded mostValues used) i 0 ≡ getD (r .values) i 0 = past-end used (mostValues - length used) i ∙ taken (r .values) (valueCount (r .field)) i (omega arith) in
     (λ j. record { field = settingAt r i .field; value = e j } ∷ same-from r more (i + 1) (omega arith) j)
 
-pub unused-values : UnusedValues
+same-settings : (r : Request) → settings (requestOf (numbersOf r)) ≡ settings r
 unfolding settings requestOf numbersOf
-unused-values r = same-from r (valueCount (r .field)) 0 (omega arith)
+same-settings r = same-from r (valueCount (r .field)) 0 (omega arith)
+
+same-refusal : (s : Converter) (values : Values) (x : Submission) → judged s values (numbered x) ≡ judged s values x
+unfolding judged requestOf numbersOf
+same-refusal s values x = rw (same-settings (x .request))
+
+same-plan : (s : Converter) (x : Submission) → plan s (numbered x) ≡ plan s x
+unfolding plan refusalOf planOf planWriting registersAfter requestOf numbersOf
+same-plan s x = rw (same-refusal s (fieldOf (s .registers)) x, same-settings (x .request))
+
+same-answer : (s : Converter) (x : Submission) → planned s (numbered x) ≡ planned s x
+unfolding planned refusalOf changed registersAfter requestOf numbersOf
+same-answer s x = rw (same-refusal s (fieldOf (s .registers)) x, same-settings (x .request))
+
+pub unused-values : UnusedValues
+unused-values = record { same-settings = same-settings; same-refusal = same-refusal; same-plan = same-plan; same-answer = same-answer }

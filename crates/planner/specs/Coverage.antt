@@ -12,7 +12,7 @@ use Rattle.request.specs.declared.Request.{Request}
 use Rattle.planner.specs.Settings.{settings}
 use Rattle.planner.specs.Runs.{Run, runs, inRuns}
 
--- every run lies among the registers; the runs have the register of every setting, and every register of theirs is one's
+-- every run lies among the registers; the runs have the register of every setting, and every register in them is a setting's
 pub record Covered (r : Request) : Type 0 where
   pub inside : every (λ (x : Run). ltb (x .first + x .further) registerCount) (runs r) ≡ true
   pub covers : every (λ (a : Setting). inRuns (runs r) (place (a .field) (r .channel) .register)) (settings r) ≡ true

@@ -8,5 +8,6 @@ pub mod Buffer
 pub mod Lengths
 pub mod Coverage
 pub mod Unused
+pub mod OneOwner
 pub mod Placement
 pub mod Figures

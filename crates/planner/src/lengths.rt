@@ -9,10 +9,11 @@ use ads1299::Converter;
 use ads1299_fields::WHOLE_CHANNEL;
 use request::Request;
 
-// The bytes that write one field's register, and a whole channel's six: two for each run, and one for each register.
+// The bytes that write one register: command, count and data.
 const FIELD_BYTES: usize = 3;
 
-const CHANNEL_BYTES: usize = 10;
+// The bytes that write a whole channel's: one register, and a run of five.
+const CHANNEL_BYTES: usize = FIELD_BYTES + 2 + 5;
 
 // How many bytes leave the modes that the converter is in and go back to them.
 fn count_modes(standby: bool, continuous: bool) -> usize

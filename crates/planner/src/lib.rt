@@ -125,7 +125,7 @@ fn put_run(tx: &mut [u8], at: usize, registers: [u8; COUNT], first: u8, further:
 
 // Writes the bytes that write 0D to 11, the registers with a bit for each channel, in one run, and gives the place after them.
 fn put_channel_bits(tx: &mut [u8], at: usize, registers: [u8; COUNT]) -> usize
-    requires { ⌜ at + 7 ≤ length (now tx) ⌝ }
+    requires { ⌜ at + (3 + channelBits .further) ≤ length (now tx) ⌝ }
     ensures { λ r. ⌜ (r ≡ at + length (writing registers channelBits))
         × (now (tx .exit) ≡ spliced (now (tx .entry)) at (writing registers channelBits)) ⌝ }
 {
@@ -148,8 +148,8 @@ fn put_runs(tx: &mut [u8], at: usize, registers: [u8; COUNT], request: Request) 
     put_run(tx, at, registers, place.register, 0)
 }
 
-// The plan writer: the plan goes over the start of the part that it is lent, with the state's registers as far as the request is about
-// them.
+// The plan writer: the plan goes over the start of the part that it is lent. It is given the state after the plan, whose registers the runs
+// carry and whose modes are those before.
 fn write_plan(part: &mut [u8], c: Converter, request: Request)
     requires { ⌜ (takesChannel (request .field) (request .channel) ≡ true) × (planLength c request ≤ length (now part)) ⌝ }
     ensures { λ _. ⌜ now (part .exit) ≡ spliced (now (part .entry)) 0 (planWriting c request (c .registers)) ⌝ }

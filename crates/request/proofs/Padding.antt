@@ -39,10 +39,6 @@ pub length-padded : (m : ℕ) (l : List ℕ) → length l ≤ m → length (padd
 unfolding padded
 length-padded m l h = length-append l (zeros (m - length l)) ∙ omega (arith, length-zeros (m - length l))
 
-pub padded-least : (m : ℕ) (l : List ℕ) → m ≤ length (padded m l)
-unfolding padded
-padded-least m l = omega (arith, length-append l (zeros (m - length l)), length-zeros (m - length l))
-
 -- what is known of an array that holds l
 module _ (e : Staged) (l : List ℕ) (is : e ≡ staged l) where
   pub contents-is : contents e ≡ l

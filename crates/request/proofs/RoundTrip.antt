@@ -6,7 +6,7 @@ use Prim.Native.Nat.{ℕ, suc, _+_, _-_, _*_, _/_, _≤_, _<_}
 use native.Mathlib.Omega.{arith}
 use borrow.Author.Tests.{leb-true, ltb-true, ltb-false, eq-eqb, ne-eqb, eqb-true, eqb-false}
 use lib.Dec.{ltb, leb}
-use lib.ListN.{length, take, drop}
+use lib.ListN.{length, take, drop, length-take}
 use lib.Pow.{areBytes}
 use lib.Seq.{take-append-seam, take-at, length-take-le}
 use Rattle.refusal.specs.Numbers.{none}
@@ -26,8 +26,8 @@ use Rattle.request.specs.declared.Request.{Request}
 use Rattle.request.specs.Requests.{mostValues, valueCount, numbersOf, request, requestOf, requestBytes, writable}
 use Rattle.request.specs.Reading.{numbersIn, numbersRead, readRefusal, refused, parsed}
 use Rattle.request.specs.Writing.{writeRefusal, written}
-use Rattle.request.specs.RoundTrip.{Counted, Readable, ReadsBack, WritesBack, RoundTrip}
-use Rattle.request.proofs.Padding.{zeros, padded-least}
+use Rattle.request.specs.RoundTrip.{Counted, Readable, ReadsAs, WritesBack, RoundTrip}
+use Rattle.request.proofs.Padding.{zeros, length-padded}
 use Rattle.request.proofs.Reading.{few-values}
 use Rattle.request.proofs.Writing.{fits}
 
@@ -128,7 +128,7 @@ readable bytes =
     (λ a. rw (refused-whole bytes a) nothing-readable)
 
 -- the request's own bytes are read as it
-module _ (r : Request) (rest : List ℕ) (can : Readable r) (small : writable r ≡ true) where
+module _ (r : Request) (rest : List ℕ) (nine : length (r .values) ≡ mostValues) (small : writable r ≡ true) where
   first-is : decoded groups (requestBytes r ++ rest) .value ≡ r .field
   unfolding requestBytes numbersOf series.seriesBytes writable series.writable
   first-is =
@@ -136,20 +136,18 @@ module _ (r : Request) (rest : List ℕ) (can : Readable r) (small : writable r 
       rw append-assoc (ap (λ (n : Number). n .value) (numbers.round-trip groups (omega arith) .readsBack (r .field) _ (leb-true _ _ (b .0))))
 
   count-is : numbersIn (requestBytes r ++ rest) ≡ length (numbersOf r)
-  unfolding numbersIn numbersOf requestOf
+  unfolding numbersIn numbersOf
   count-is =
       let f = few-values (r .field) in
-      let v = padded-least mostValues (take (valueCount (r .field)) (r .values)) in
-      let l = ap (λ (q : Request). length (q .values)) can in
       rw first-is (omega (arith, length-take-le (valueCount (r .field)) (r .values) (omega arith)))
 
-  read-bytes : parsed (requestBytes r ++ rest) ≡ record { refusal = none; request = r; used = length (requestBytes r) }
+  read-bytes : parsed (requestBytes r ++ rest) ≡ record { refusal = none; request = requestOf (numbersOf r); used = length (requestBytes r) }
   unfolding readRefusal numbersRead requestBytes writable
   read-bytes =
       let bytes = requestBytes r ++ rest in
       let b = law .readsBack (numbersOf r) rest small in
       let s : numbersRead bytes ≡ series.series groups (length (numbersOf r)) bytes = ap (λ (k : ℕ). series.series groups k bytes) count-is in
-      read-whole bytes (ap (λ (found : series.Series). firstOf (found .refusals)) s ∙ b .accepted) ∙ rw (s, b .same, b .count, can)
+      read-whole bytes (ap (λ (found : series.Series). firstOf (found .refusals)) s ∙ b .accepted) ∙ rw (s, b .same, b .count)
 
 -- a writer's answer that is no refusal: nothing too large, and room enough
 can-write : (r : Request) (buffer : List ℕ) → written r buffer .refusal ≡ none → (writable r ≡ true) × (length (requestBytes r) ≤ length buffer)
@@ -159,11 +157,23 @@ can-write r buffer e =
     (λ w. split (ltb (length buffer) (length (requestBytes r))) (λ t. let z : _≡_ {A = ℕ} 9 0 = rw (w, t) at e in absurd (omega arith)) (λ t. (w, ltb-false _ _ t)))
     (λ w. let z : _≡_ {A = ℕ} 7 0 = rw w at e in absurd (omega arith))
 
-reads-back : (r : Request) (buffer rest : List ℕ) → Readable r → written r buffer .refusal ≡ none → ReadsBack r buffer rest
-reads-back r buffer rest can e =
+reads-numbers : (r : Request) (buffer rest : List ℕ) → length (r .values) ≡ mostValues → written r buffer .refusal ≡ none → ReadsAs r (requestOf (numbersOf r)) buffer rest
+reads-numbers r buffer rest nine e =
     let w = can-write r buffer e in
     let a = fits r buffer (w .0) (w .1) in
-    rw (← a .0, ← a .1, take-append-seam) (read-bytes r rest can (w .0))
+    rw (← a .0, ← a .1, take-append-seam) (read-bytes r rest nine (w .0))
+
+-- a request that a reader can give has nine values
+nine-values : (r : Request) → Readable r → length (r .values) ≡ mostValues
+unfolding requestOf numbersOf
+nine-values r can =
+    let f = few-values (r .field) in
+    let used = take (valueCount (r .field)) (r .values) in
+    ap (λ (q : Request). length (q .values)) (sym can) ∙ length-padded mostValues used (omega (arith, length-take (valueCount (r .field)) (r .values)))
+
+reads-back : (r : Request) (buffer rest : List ℕ) → Readable r → written r buffer .refusal ≡ none → ReadsAs r r buffer rest
+reads-back r buffer rest can e =
+    reads-numbers r buffer rest (nine-values r can) e ∙ (λ i. record { refusal = none; request = can i; used = written r buffer .used })
 
 -- a request that was read may be written, as the bytes it came from
 writable-read : (bytes : List ℕ) → areBytes bytes ≡ true → readRefusal bytes ≡ none → (writable (parsed bytes .request) ≡ true) × (requestBytes (parsed bytes .request) ≡ take (parsed bytes .used) bytes)
@@ -189,4 +199,4 @@ writes-back bytes buffer ok e room =
     }
 
 pub round-trip : RoundTrip
-round-trip = record { counted = counted; readable = readable; readsBack = reads-back; writesBack = writes-back }
+round-trip = record { counted = counted; readable = readable; readsBack = reads-back; readsNumbers = reads-numbers; writesBack = writes-back }

@@ -16,11 +16,14 @@ ghost use Rattle.request.specs.Writing.{written, bufferAfter, staged, co
 // The most values of a request: one for each field of a channel.
 pub const VALUES: usize = ads1299_fields::CHANNEL_FIELDS as usize;
 
-// The fewest numbers of a request: the field, the channel and a value.
-pub const FEWEST_NUMBERS: usize = 3;
+// The numbers before the values: the field and the channel.
+const HEAD: usize = 2;
 
-// The most numbers of a request: the field, the channel and every value.
-const MOST_NUMBERS: usize = 2 + VALUES;
+// The fewest numbers of a request.
+pub const FEWEST_NUMBERS: usize = HEAD + 1;
+
+// The most numbers of a request.
+const MOST_NUMBERS: usize = HEAD + VALUES;
 
 // Enough bytes for every request.
 const LONGEST: usize = MOST_NUMBERS * leb128::GROUPS;
@@ -82,7 +85,7 @@ fn count_numbers(bytes: &[u8]) -> usize
     ensures { λ r. ⌜ r ≡ numbersIn (now (bytes .entry)) ⌝ }
 {
     let field = read_field(bytes);
-    2 + count_values(field.value)
+    HEAD + count_values(field.value)
 }
 
 // So many numbers from the bytes' start on, or the refusal of the first that has one.
@@ -223,7 +226,7 @@ pub fn write(request: Request, buffer: &mut [u8]) -> Written
         × (now (buffer .exit) ≡ bufferAfter request (now (buffer .entry))) ⌝ }
 {
     let numbers = numbers_of(request);
-    let count = 2 + count_values(request.field);
+    let count = HEAD + count_values(request.field);
     if is_writable(&numbers[..count]) {
         let staged = stage(&numbers[..count]);
         let used = staged.used;

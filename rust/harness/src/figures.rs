@@ -1147,6 +1147,7 @@ pub fn no1_places(bench: &impl Bench) {
             let mut expected = before;
             expected[at..at + 14].copy_from_slice(&plan);
             assert_eq!((refusal, length, tx), (0, 14, expected));
+            assert_eq!(send(bench, c, &plan).1, next, "place {at}");
         } else {
             assert_eq!((refusal, length, next, tx), (9, 0, c, before), "place {at}");
         }

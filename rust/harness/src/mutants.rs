@@ -34,6 +34,8 @@ pub enum Fault {
     SamplePlacedThroughMask,
     RefusedPlanLengthKept,
     // Those of requests for a whole channel.
+    WholeChannelUnknown,
+    WholeChannelShared,
     ChannelValuesBeforeOwner,
     ChannelRoomOfOneField,
     ChannelRunFromPowerUp,
@@ -81,7 +83,9 @@ pub const RARER: [Fault; 15] = [
     Fault::RefusedPlanLengthKept,
 ];
 
-pub const WHOLE_CHANNELS: [Fault; 14] = [
+pub const WHOLE_CHANNELS: [Fault; 16] = [
+    Fault::WholeChannelUnknown,
+    Fault::WholeChannelShared,
     Fault::ChannelValuesBeforeOwner,
     Fault::ChannelRoomOfOneField,
     Fault::ChannelRunFromPowerUp,
@@ -180,6 +184,12 @@ impl Mutant {
         tx: &mut [u8],
         at: usize,
     ) -> (u8, usize, Converter) {
+        match self.0 {
+            // Judged as a number that no field has, and as a shared field's.
+            Fault::WholeChannelUnknown => request.field = 31,
+            Fault::WholeChannelShared => request.field = 10,
+            _ => {}
+        }
         let room = tx.len().saturating_sub(at);
         let start = usize::from(c.standby) + usize::from(c.continuous);
         let (refusal, length, mut after) = Model.plan(c, party, request, tx, at);
