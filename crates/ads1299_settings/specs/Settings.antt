@@ -2,7 +2,7 @@
 use mathlib.Core.Bool.{Bool, cond}
 use mathlib.Core.List.{List, [], _∷_}
 use Prim.Native.Nat.{ℕ}
-use Rattle.cases.specs.Every.{every, some}
+use Rattle.cases.specs.Every.{every, anyOf}
 use Rattle.ads1299_fields.specs.declared.Place.{Place}
 use Rattle.ads1299_fields.specs.Places.{place, apart}
 use Rattle.ads1299_fields.specs.Values.{settable}
@@ -38,7 +38,7 @@ allSettable n given = every (λ (a : Setting). settable (a .field) n (a .value))
 
 -- a setting made in channel n is of field f of channel m
 abbrev pub anySets : ℕ → List Setting → ℕ → ℕ → Bool
-anySets n given f m = some (λ (a : Setting). same (a .field) n f m) given
+anySets n given f m = anyOf (λ (a : Setting). same (a .field) n f m) given
 
 -- the place has no bit of a field that is set in channel n
 abbrev pub allApart : ℕ → List Setting → Place → Bool

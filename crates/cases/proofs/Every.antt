@@ -2,7 +2,7 @@
 use mathlib.Core.Path.{_≡_, refl}
 use mathlib.Core.Bool.{Bool, true, _&&_, false≢true}
 use mathlib.Core.List.{List, [], _∷_}
-use Rattle.cases.specs.Every.{every, some}
+use Rattle.cases.specs.Every.{every, anyOf}
 use Rattle.cases.proofs.Cases.{split, and-both}
 
 -- a test that follows from another does so for every element
@@ -11,7 +11,7 @@ follows p q f [] e = refl
 follows p q f (a ∷ l) e = let b = and-both (p a) (every p l) e in rw (f a (b .0), follows p q f l (b .1))
 
 -- where every element passes one test and some element another, an element passes both
-pub both : {A : Type 0} (p q : A → Bool) (l : List A) → every p l ≡ true → some q l ≡ true → (a : A) × (p a ≡ true) × (q a ≡ true)
+pub both : {A : Type 0} (p q : A → Bool) (l : List A) → every p l ≡ true → anyOf q l ≡ true → (a : A) × (p a ≡ true) × (q a ≡ true)
 both p q [] e s = absurd (false≢true s)
 both p q (a ∷ l) e s =
     let b = and-both (p a) (every p l) e in

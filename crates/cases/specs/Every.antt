@@ -8,6 +8,6 @@ every test [] = true
 every test (a ∷ l) = test a && every test l
 
 -- an element passes the test
-abbrev pub some : {A : Type 0} → (A → Bool) → List A → Bool
-some test [] = false
-some test (a ∷ l) = test a || some test l
+abbrev pub anyOf : {A : Type 0} → (A → Bool) → List A → Bool
+anyOf test [] = false
+anyOf test (a ∷ l) = test a || anyOf test l

@@ -17,7 +17,7 @@ use Rattle.ads1299_fields.specs.Values.{fits, legal, settable}
 use Rattle.ads1299_settings.specs.Registers.{readAt, writeAt, fieldOf, fieldByte, withField}
 use Rattle.ads1299_settings.specs.Settings.{withSettings}
 use Rattle.planner.specs.Settings.{settingsFrom, settings}
-use Rattle.planner.specs.Runs.{span, writingAll, runsLength}
+use Rattle.planner.specs.Runs.{registersFrom, writingAll, runsLength}
 use Rattle.planner.specs.Refusals.{judged}
 use Rattle.planner.specs.Plan.{planWriting, registersAfter, planOf}
 use Rattle.planner.specs.Planned.{refusalOf, changed, plan, planned}
@@ -28,5 +28,5 @@ use Rattle.console.specs.Transcript.{lines, session, transcriptOf}
 use Rattle.console.specs.Figures.{figures, FiguresHold}
 
 pub figures-hold : FiguresHold
-unfolding figures field inserted decoded series padded requestOf numbersIn numbersRead readRefusal parsed powerUp validId restored poweredUp validConverter valid knownParty ownerOf table rowOf named place fits legal settable readAt writeAt fieldOf fieldByte withField withSettings settingsFrom settings span writingAll runsLength judged planWriting registersAfter planOf refusalOf changed plan planned decimal hex hexes line fresh printed nextState consumed lines session transcriptOf
+unfolding figures field inserted decoded series padded requestOf numbersIn numbersRead readRefusal parsed powerUp validId restored poweredUp validConverter valid knownParty ownerOf table rowOf named place fits legal settable readAt writeAt fieldOf fieldByte withField withSettings settingsFrom settings registersFrom writingAll runsLength judged planWriting registersAfter planOf refusalOf changed plan planned decimal hex hexes line fresh printed nextState consumed lines session transcriptOf
 figures-hold = refl

@@ -30,8 +30,8 @@ use Rattle.ads1299.specs.Step.{effect, commanded, counted, followed, stepped}
 use Rattle.ads1299.specs.Run.{after}
 use Rattle.ads1299.proofs.ValidState.{parts}
 use Rattle.ads1299.proofs.StaysValid.{next-is, stays-valid}
-use Rattle.planner.specs.Runs.{Run, span, writing, writingAll, inRun, inRuns}
-use Rattle.planner.proofs.Runs.{span-length}
+use Rattle.planner.specs.Runs.{Run, registersFrom, writing, writingAll, inRun, inRuns}
+use Rattle.planner.proofs.Runs.{registers-length}
 use Rattle.demand2.proofs.Modes.{after-append, after-valid, decoded-write}
 
 -- gives the registers after masked writes from an address on
@@ -93,15 +93,15 @@ pub record Leads (l m : List ℕ) (runs : List Run) : Type 0 where
 
 module _ (m : List ℕ) (new-size : length m ≡ registerCount) where
   -- a run, read
-  run-length : (k a : ℕ) (l : List ℕ) → length (writtenFrom l a (span m a k)) ≡ length l
-  unfolding writtenFrom span
+  run-length : (k a : ℕ) (l : List ℕ) → length (writtenFrom l a (registersFrom m a k)) ≡ length l
+  unfolding writtenFrom registersFrom
   run-length zero a l = refl
   run-length (suc k) a l = run-length k (a + 1) (written l a (getD m a 0)) ∙ written-length l a (getD m a 0)
 
   run-reads : (k a : ℕ) (l : List ℕ) → length l ≡ registerCount → a + k ≤ registerCount → (i : ℕ)
-      → getD (writtenFrom l a (span m a k)) i 0
+      → getD (writtenFrom l a (registersFrom m a k)) i 0
       ≡ cond (leb a i && ltb i (a + k)) (masked (getD l i 0) (getD masks i 0) (getD m i 0)) (getD l i 0)
-  unfolding writtenFrom span
+  unfolding writtenFrom registersFrom
   run-reads zero a l n h i = split (leb a i) (λ e. rw (e, le-ltb i (a + 0) (let g = leb-true a i e in omega arith))) (λ e. rw e)
   run-reads (suc k) a l n h i =
       run-reads k (a + 1) (written l a (getD m a 0)) (written-length l a (getD m a 0) ∙ n) (omega arith) i
@@ -116,7 +116,7 @@ module _ (m : List ℕ) (new-size : length m ≡ registerCount) where
       rw (written-other l a (getD m a 0) i ne, sum, low))
 
   leads-next : (l : List ℕ) (x : Run) (runs : List Run) → x .first + x .further < registerCount → Leads l m (x ∷ runs)
-      → Leads (writtenFrom l (x .first) (span m (x .first) (suc (x .further)))) m runs
+      → Leads (writtenFrom l (x .first) (registersFrom m (x .first) (suc (x .further)))) m runs
   leads-next l x runs h e =
       let reads = run-reads (suc (x .further)) (x .first) l (e .size) (omega arith) in
       record {
@@ -128,13 +128,13 @@ module _ (m : List ℕ) (new-size : length m ≡ registerCount) where
 
   module _ (w t : List ℕ) (v : Bool) (f : List ℕ) where
     one-run : (o : Output) (x : Run) (l : List ℕ) → x .first + x .further < registerCount → valid (state l w t o false false v f Waiting) ≡ true
-        → after (state l w t o false false v f Waiting) (writing m x) ≡ at w t v f (writtenFrom l (x .first) (span m (x .first) (suc (x .further)))) Waiting
-    unfolding span
+        → after (state l w t o false false v f Waiting) (writing m x) ≡ at w t v f (writtenFrom l (x .first) (registersFrom m (x .first) (suc (x .further)))) Waiting
+    unfolding registersFrom
     one-run o x l h e =
         let a = x .first in
-        let bytes = span m (a + 1) (x .further) in
-        ap (λ (j : ℕ). after (state l w t o false false v f Waiting) ((WREG + a) ∷ j ∷ getD m a 0 ∷ bytes)) (sym (span-length m (a + 1) (x .further)))
-        ∙ writes w t v f o a (getD m a 0) bytes l e (omega arith) (omega (arith, span-length m (a + 1) (x .further)))
+        let bytes = registersFrom m (a + 1) (x .further) in
+        ap (λ (j : ℕ). after (state l w t o false false v f Waiting) ((WREG + a) ∷ j ∷ getD m a 0 ∷ bytes)) (sym (registers-length m (a + 1) (x .further)))
+        ∙ writes w t v f o a (getD m a 0) bytes l e (omega arith) (omega (arith, registers-length m (a + 1) (x .further)))
 
     -- every run, the first with output pending or not
     pub sent-runs : (runs : List Run) (o : Output) (x : Run) (l : List ℕ) → every (λ (y : Run). ltb (y .first + y .further) registerCount) (x ∷ runs) ≡ true
@@ -153,5 +153,5 @@ module _ (m : List ℕ) (new-size : length m ≡ registerCount) where
         let one = one-run o x l inside z in
         after-append (writing m x) s (writingAll m (next ∷ runs))
         ∙ ap (λ (u : Converter). after u (writingAll m (next ∷ runs))) one
-        ∙ sent-runs runs Empty next (writtenFrom l (x .first) (span m (x .first) (suc (x .further)))) (b .1) (leads-next l x (next ∷ runs) inside e)
+        ∙ sent-runs runs Empty next (writtenFrom l (x .first) (registersFrom m (x .first) (suc (x .further)))) (b .1) (leads-next l x (next ∷ runs) inside e)
         (rw one at (after-valid (writing m x) s z))

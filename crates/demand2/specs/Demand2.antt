@@ -18,7 +18,7 @@ use Rattle.ads1299_settings.specs.Registers.{readAt, fieldOf}
 use Rattle.ads1299_settings.specs.Settings.{allApart}
 use Rattle.request.specs.Requests.{valueCount}
 use Rattle.planner.specs.Submission.{Submission}
-use Rattle.planner.specs.Settings.{settingAt, settings, sets}
+use Rattle.planner.specs.Settings.{settingAt, settings, setsField}
 use Rattle.planner.specs.Refusals.{refusals}
 use Rattle.planner.specs.Planned.{plan, planned}
 
@@ -34,7 +34,7 @@ pub record Fulfilled (s : Converter) (x : Submission) : Type 0 where
   pub values : (i : ℕ) → i < valueCount (x .request .field)
       → fieldOf (sent s x .registers) (settingAt (x .request) i .field) (x .request .channel) ≡ settingAt (x .request) i .value
   -- every other field is as it was
-  pub fields : (f n : ℕ) → named f n ≡ true → sets (x .request) f n ≡ false → fieldOf (sent s x .registers) f n ≡ fieldOf (s .registers) f n
+  pub fields : (f n : ℕ) → named f n ≡ true → setsField (x .request) f n ≡ false → fieldOf (sent s x .registers) f n ≡ fieldOf (s .registers) f n
   -- and so is every place, of any register, that has no bit of a field that is set
   pub others : (j : Place) → allApart (x .request .channel) (settings (x .request)) j ≡ true → readAt (sent s x .registers) j ≡ readAt (s .registers) j
   -- all but the registers is as it was, the modes too, and nothing is pending

@@ -24,11 +24,11 @@ use Rattle.planner.specs.Refusals.{judged}
 use Rattle.ads1299_settings.specs.Settings.{withSettings}
 use Rattle.request.specs.Requests.{padded}
 use Rattle.planner.specs.Settings.{settingsFrom, settings}
-use Rattle.planner.specs.Runs.{span, writingAll, runsLength}
+use Rattle.planner.specs.Runs.{registersFrom, writingAll, runsLength}
 use Rattle.planner.specs.Plan.{planWriting, registersAfter, planOf}
 use Rattle.planner.specs.Planned.{refusalOf, plan, planned}
 use Rattle.figures.specs.Figures.{FiguresHold}
 
 pub figures-hold : FiguresHold
-unfolding field bit inserted masked wordOf codeOf word wordBytes wordAt joined statusWord poweredDown shown frameWord frameOf registerCommand decoded acts begun remainder countable powerUp masks registerAt written validId restored poweredUp emptied loaded ignored validConverter valid effect commanded counted outgoing followed stepped after outs knownParty ownerOf table rowOf named place fits legal settable writeAt withField judged withSettings padded settingsFrom settings span writingAll runsLength planWriting registersAfter planOf refusalOf plan planned
+unfolding field bit inserted masked wordOf codeOf word wordBytes wordAt joined statusWord poweredDown shown frameWord frameOf registerCommand decoded acts begun remainder countable powerUp masks registerAt written validId restored poweredUp emptied loaded ignored validConverter valid effect commanded counted outgoing followed stepped after outs knownParty ownerOf table rowOf named place fits legal settable writeAt withField judged withSettings padded settingsFrom settings registersFrom writingAll runsLength planWriting registersAfter planOf refusalOf plan planned
 figures-hold = refl

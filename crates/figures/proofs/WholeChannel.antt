@@ -18,12 +18,12 @@ use Rattle.leb128.specs.Series.{series}
 use Rattle.request.specs.Requests.{padded, requestOf}
 use Rattle.request.specs.Reading.{numbersIn, numbersRead, readRefusal, parsed}
 use Rattle.planner.specs.Settings.{settingsFrom, settings}
-use Rattle.planner.specs.Runs.{span, writingAll, runsLength}
+use Rattle.planner.specs.Runs.{registersFrom, writingAll, runsLength}
 use Rattle.planner.specs.Refusals.{judged}
 use Rattle.planner.specs.Plan.{planWriting, registersAfter, planOf}
 use Rattle.planner.specs.Planned.{refusalOf, plan, planned}
 use Rattle.figures.specs.WholeChannel.{FiguresHold}
 
 pub figures-hold : FiguresHold
-unfolding field inserted countable powerUp validId restored poweredUp validConverter valid knownParty ownerOf table rowOf named place fits legal settable writeAt withField withSettings decoded series padded requestOf numbersIn numbersRead readRefusal parsed settingsFrom settings span writingAll runsLength judged planWriting registersAfter planOf refusalOf plan planned
+unfolding field inserted countable powerUp validId restored poweredUp validConverter valid knownParty ownerOf table rowOf named place fits legal settable writeAt withField withSettings decoded series padded requestOf numbersIn numbersRead readRefusal parsed settingsFrom settings registersFrom writingAll runsLength judged planWriting registersAfter planOf refusalOf plan planned
 figures-hold = refl

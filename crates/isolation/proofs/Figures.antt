@@ -15,7 +15,7 @@ use Rattle.ads1299_settings.specs.Registers.{writeAt, withField}
 use Rattle.ads1299_settings.specs.Settings.{withSettings}
 use Rattle.request.specs.Requests.{padded}
 use Rattle.planner.specs.Settings.{settingsFrom, settings}
-use Rattle.planner.specs.Runs.{span, writingAll, runsLength}
+use Rattle.planner.specs.Runs.{registersFrom, writingAll, runsLength}
 use Rattle.planner.specs.Plan.{planWriting, registersAfter, planOf}
 use Rattle.planner.specs.Refusals.{judged}
 use Rattle.planner.specs.Planned.{refusalOf, changed, plan, planned}
@@ -23,5 +23,5 @@ use Rattle.isolation.specs.Lists.{numbers, plans, end}
 use Rattle.isolation.specs.Figures.{FiguresHold}
 
 pub figures-hold : FiguresHold
-unfolding field inserted countable powerUp validId restored poweredUp validConverter valid knownParty ownerOf table rowOf named place fits legal settable writeAt withField withSettings padded settingsFrom settings span writingAll runsLength planWriting registersAfter planOf judged refusalOf changed plan planned numbers plans end
+unfolding field inserted countable powerUp validId restored poweredUp validConverter valid knownParty ownerOf table rowOf named place fits legal settable writeAt withField withSettings padded settingsFrom settings registersFrom writingAll runsLength planWriting registersAfter planOf judged refusalOf changed plan planned numbers plans end
 figures-hold = refl

@@ -21,7 +21,7 @@ use Rattle.ads1299_settings.specs.Settings.{Setting, Values, withValue, withVal
 use Rattle.ads1299_settings.proofs.Registers.{bit-of}
 use Rattle.ads1299_settings.proofs.Settings.{same-values, unset-values}
 use Rattle.planner.specs.Submission.{Submission}
-use Rattle.planner.specs.Settings.{settings, sets}
+use Rattle.planner.specs.Settings.{settings, setsField}
 use Rattle.planner.specs.Refusals.{fieldOwner, refusals, judged}
 use Rattle.planner.proofs.Settings.{one-owner}
 use Rattle.isolation.specs.Reference.{cellsAfter, cellsFrom, numbersFrom}
@@ -65,11 +65,11 @@ module _ (s : Converter) (p : ℕ) where
 
   -- another party's request sets none of the party's cells
   not-set : (c : Values) (x : Submission) → eqb (x .party) p ≡ false → accepted (judged s c x) ≡ true → (f n : ℕ) → fieldOwner (s .owners) f n ≡ p
-      → sets (x .request) f n ≡ false
+      → setsField (x .request) f n ≡ false
   not-set c x e a f n o =
       let r = x .request in
       let owns : Setting → Bool = λ y. eqb (fieldOwner (s .owners) (y .field) (r .channel)) (fieldOwner (s .owners) (r .field) (r .channel)) in
-      split (sets r f n)
+      split (setsField r f n)
       (λ q.
       let w = both owns (λ (y : Setting). same (y .field) (r .channel) f n) (settings r) (one-owner (s .owners) r) q in
       let b = and-both (eqb (w .0 .field) f) (eqb (r .channel) n) (w .2) in

@@ -5,7 +5,7 @@ use mathlib.Core.Bool.{Bool, true, false, cond, _&&_}
 use mathlib.Core.List.{List, [], _∷_, _++_, getLastD}
 use lib.Dec.{eqb, leb, ltb}
 use lib.ListN.{getD}
-use Rattle.cases.specs.Every.{some}
+use Rattle.cases.specs.Every.{anyOf}
 use Rattle.refusal.specs.First.{accepted}
 use Rattle.ads1299_registers.specs.Addresses.{registerCount, BIAS_SENSP, LOFF_FLIP}
 use Rattle.ads1299.specs.declared.Converter.{Converter}
@@ -76,7 +76,7 @@ Own s party r i =
 
 -- register r has a bit for each channel, and so bits of several parties
 abbrev pub spread : ℕ → Bool
-spread r = some (λ (row : Row). ltb 0 (row .bitStep) && eqb (row .register) r) table
+spread r = anyOf (λ (row : Row). ltb 0 (row .bitStep) && eqb (row .register) r) table
 
 -- Registers 0D to 11 have a bit for each channel, and no other register has.
 abbrev pub SpreadRegisters : Type 0

@@ -7,7 +7,7 @@ use native.Mathlib.Omega.{arith}
 use borrow.Author.Tests.{eq-eqb, leb-true, le-leb, lt-ltb, ltb-true, ltb-false, le-ltb}
 use lib.Dec.{eqb, leb, ltb}
 use Rattle.cases.specs.Below.{below}
-use Rattle.cases.specs.Every.{every, some}
+use Rattle.cases.specs.Every.{every, anyOf}
 use Rattle.cases.proofs.Cases.{split, and-both}
 use Rattle.cases.proofs.Below.{below-at}
 use Rattle.ads1299_registers.specs.Addresses.{registerCount, channelCount}
@@ -28,7 +28,7 @@ abbrev covers : ℕ → Bool
 covers n = every (λ f. inRuns (wholeRuns n) (place f n .register)) channelFields
 
 abbrev needs : ℕ → ℕ → Bool
-needs n i = not (inRuns (wholeRuns n) i) || some (λ f. eqb (place f n .register) i) channelFields
+needs n i = not (inRuns (wholeRuns n) i) || anyOf (λ f. eqb (place f n .register) i) channelFields
 
 abbrev atChannel : ℕ → Bool
 atChannel n = not (isChannel n) || (every among (wholeRuns n) && covers n && below registerCount (needs n))
@@ -44,7 +44,7 @@ module _ (n : ℕ) (h : isChannel n ≡ true) where
   first-two : (every among (wholeRuns n) && covers n) ≡ true
   first-two = and-both (every among (wholeRuns n) && covers n) (below registerCount (needs n)) at-channel .0
 
-  whole-needed : (i : ℕ) → inRuns (wholeRuns n) i ≡ true → some (λ f. eqb (place f n .register) i) channelFields ≡ true
+  whole-needed : (i : ℕ) → inRuns (wholeRuns n) i ≡ true → anyOf (λ f. eqb (place f n .register) i) channelFields ≡ true
   whole-needed i e =
       let b = bounds n h in
       split (ltb i registerCount)

@@ -6,7 +6,7 @@ use mathlib.Core.List.{List, [], _∷_}
 use native.Mathlib.Omega.{arith}
 use borrow.Author.Tests.{eqb-true, eqb-false, eq-eqb, ne-eqb}
 use lib.Dec.{eqb}
-use Rattle.cases.specs.Every.{every, some}
+use Rattle.cases.specs.Every.{every, anyOf}
 use Rattle.cases.proofs.Cases.{split, and-both}
 use Rattle.ads1299_registers.specs.Channels.{isChannel}
 use Rattle.ads1299_fields.specs.Names.{wholeChannel, isField, knownField, takesChannel, named}
@@ -15,7 +15,8 @@ use Rattle.ads1299_settings.specs.Settings.{Setting, Values, withValue, withVal
 use Rattle.ads1299_settings.proofs.Registers.{legal-settable}
 use Rattle.ads1299_settings.proofs.Settings.{unset-values}
 use Rattle.request.specs.declared.Request.{Request}
-use Rattle.request.specs.Requests.{valueCount}
+use Rattle.request.specs.Requests.{mostValues, valueCount}
+use Rattle.request.proofs.Reading.{few-values}
 use Rattle.planner.specs.Settings.{settingAt, settingsFrom, settings, allLegal}
 use Rattle.parties.specs.Owners.{ownerOf}
 use Rattle.planner.specs.Refusals.{fieldOwner}
@@ -32,9 +33,9 @@ module _ (r : Request) (test : ℕ → Bool) where
   unfolding settings settingsFrom
   every-field whole one = split (eqb (r .field) wholeChannel) (λ w. rw (w, w) (whole w)) (λ w. rw (w, w, one w))
 
-  pub some-field : (eqb (r .field) wholeChannel ≡ true → some test channelFields ≡ true)
+  pub some-field : (eqb (r .field) wholeChannel ≡ true → anyOf test channelFields ≡ true)
       → (eqb (r .field) wholeChannel ≡ false → test (r .field) ≡ true)
-      → some (λ (a : Setting). test (a .field)) (settings r) ≡ true
+      → anyOf (λ (a : Setting). test (a .field)) (settings r) ≡ true
   unfolding settings settingsFrom
   some-field whole one = split (eqb (r .field) wholeChannel) (λ w. rw (w, w) (whole w)) (λ w. rw (w, w, one w))
 
@@ -70,6 +71,16 @@ all-settable n (a ∷ rest) names values =
     rw (legal-settable (a .field) n (a .value) (k .0) (l .0), all-settable n rest (k .1) (l .1))
 
 -- the settings one by one, as the code goes through them
+pub settings-start : (r : Request) (count : ℕ) → count ≡ valueCount (r .field) → settings r ≡ settingsFrom r 0 (count - 0)
+unfolding settings
+settings-start r count e =
+    let z : valueCount (r .field) ≡ count - 0 = omega (arith, e) in
+    ap (settingsFrom r 0) z
+
+-- a value's place is within the array
+pub value-within : (r : Request) (count i : ℕ) → count ≡ valueCount (r .field) → i < count → i < mostValues
+value-within r count i e lt = omega (arith, e, few-values (r .field) .1)
+
 pub settings-step : (r : Request) (count i : ℕ) → i < count → settingsFrom r i (count - i) ≡ settingAt r i ∷ settingsFrom r (i + 1) (count - (i + 1))
 unfolding settingsFrom
 settings-step r count i h =

@@ -3,7 +3,7 @@ use Prim.Native.Nat.{ℕ, _+_}
 use mathlib.Core.Path.{_≡_}
 use mathlib.Core.Bool.{true}
 use lib.Dec.{eqb, ltb}
-use Rattle.cases.specs.Every.{every, some}
+use Rattle.cases.specs.Every.{every, anyOf}
 use Rattle.ads1299_registers.specs.Addresses.{registerCount}
 use Rattle.ads1299_fields.specs.Names.{takesChannel}
 use Rattle.ads1299_fields.specs.Places.{place}
@@ -16,7 +16,7 @@ use Rattle.planner.specs.Runs.{Run, runs, inRuns}
 pub record Covered (r : Request) : Type 0 where
   pub inside : every (λ (x : Run). ltb (x .first + x .further) registerCount) (runs r) ≡ true
   pub covers : every (λ (a : Setting). inRuns (runs r) (place (a .field) (r .channel) .register)) (settings r) ≡ true
-  pub needed : (i : ℕ) → inRuns (runs r) i ≡ true → some (λ (a : Setting). eqb (place (a .field) (r .channel) .register) i) (settings r) ≡ true
+  pub needed : (i : ℕ) → inRuns (runs r) i ≡ true → anyOf (λ (a : Setting). eqb (place (a .field) (r .channel) .register) i) (settings r) ≡ true
 
 -- A request with a channel that its field takes writes the registers of what it sets, and no others.
 abbrev pub RunsCover : Type 0

@@ -4,7 +4,7 @@ use mathlib.Core.Bool.{Bool, cond, _&&_}
 use mathlib.Core.List.{List, [], _∷_, _++_}
 use lib.Dec.{eqb, leb, ltb}
 use lib.ListN.{getD}
-use Rattle.cases.specs.Every.{some}
+use Rattle.cases.specs.Every.{anyOf}
 use Rattle.ads1299_registers.specs.Addresses.{CH1SET, BIAS_SENSP, LOFF_FLIP}
 use Rattle.ads1299_commands.specs.Opcodes.{WREG}
 use Rattle.ads1299_fields.specs.Names.{wholeChannel}
@@ -37,13 +37,13 @@ abbrev pub runs : Request → List Run
 runs r = cond (eqb (r .field) wholeChannel) (wholeRuns (r .channel)) (run (place (r .field) (r .channel) .register) 0 ∷ [])
 
 -- gives so many registers, from an address on
-unfoldable pub span : List ℕ → ℕ → ℕ → List ℕ
-span registers first zero = []
-span registers first (suc more) = getD registers first 0 ∷ span registers (first + 1) more
+unfoldable pub registersFrom : List ℕ → ℕ → ℕ → List ℕ
+registersFrom registers first zero = []
+registersFrom registers first (suc more) = getD registers first 0 ∷ registersFrom registers (first + 1) more
 
 -- gives the bytes that write a run: the command with the first address, the number of registers minus one, the registers
 abbrev pub writing : List ℕ → Run → List ℕ
-writing registers x = (WREG + x .first) ∷ x .further ∷ span registers (x .first) (suc (x .further))
+writing registers x = (WREG + x .first) ∷ x .further ∷ registersFrom registers (x .first) (suc (x .further))
 
 -- gives the bytes that write every run
 unfoldable pub writingAll : List ℕ → List Run → List ℕ
@@ -61,4 +61,4 @@ inRun i x = leb (x .first) i && ltb i (x .first + suc (x .further))
 
 -- a run has register i
 abbrev pub inRuns : List Run → ℕ → Bool
-inRuns all i = some (inRun i) all
+inRuns all i = anyOf (inRun i) all

@@ -25,8 +25,8 @@ unfoldable pub settings : Request → List Setting
 settings r = settingsFrom r 0 (valueCount (r .field))
 
 -- the request sets field f of channel n
-abbrev pub sets : Request → ℕ → ℕ → Bool
-sets r f n = anySets (r .channel) (settings r) f n
+abbrev pub setsField : Request → ℕ → ℕ → Bool
+setsField r f n = anySets (r .channel) (settings r) f n
 
 -- every value is legal for its field
 abbrev pub allLegal : List Setting → Bool

@@ -1,13 +1,12 @@
 -- The loop keeps that the values that are left decide.
 use borrow.Author.Needs.{needs}
 use native.Mathlib.Omega.{arith}
-use Prim.Native.Nat.{ℕ, _+_, _-_, _≤_}
+use Prim.Native.Nat.{_+_, _-_, _≤_, _<_}
 use mathlib.Core.Bool.{_&&_}
 use mathlib.Core.Path.{_≡_, sym, ap, _∙_}
-use Rattle.request.specs.Requests.{valueCount}
+use Rattle.request.specs.Requests.{mostValues, valueCount}
 use Rattle.planner.specs.Settings.{settingsFrom, settings, allLegal}
-use Rattle.request.proofs.Reading.{few-values}
-use Rattle.planner.proofs.Settings.{settings-step, settings-end}
+use Rattle.planner.proofs.Settings.{settings-start, value-within, settings-step, settings-end}
 use Rattle.planner.proofs.fields.are_legal.Statement.{statement}
 use Rattle.planner.proofs.fields.are_legal.Tie as tie
 
@@ -18,16 +17,13 @@ abbrev μ-loop : tie.MeasureT-loop
 μ-loop request count values i₀ i = count - i
 
 loop-holds : tie.Need-loop-holds Inv-loop μ-loop
-unfolding settings
 loop-holds c =
-    let e = c .before .count-values .ensures in
-    let r = c .before .before .args .request in
-    let z : c .before .count-values .result - 0 ≡ valueCount (r .field) = omega (arith, e) in
-    (e, (omega arith, sym (ap (λ (n : ℕ). allLegal (settingsFrom r 0 n)) z)))
+    let n = c .before .count-values in
+    (n .ensures, (omega arith, ap allLegal (settings-start (c .before .before .args .request) (n .result) (n .ensures))))
 
 -- a value's place is within the array
-value-within : (c : tie.In-loop Inv-loop μ-loop) → c .before .loop .i ≤ 8
-value-within c = let l = c .before in omega (arith, l .loop .inv .0, few-values (l .before .before .before .args .request .field) .1, c .loop-test .taken)
+within : (c : tie.In-loop Inv-loop μ-loop) → c .before .loop .i < mostValues
+within c = let l = c .before in value-within (l .before .before .before .args .request) (l .before .before .count-values .result) (l .loop .i) (l .loop .inv .0) (c .loop-test .taken)
 
 -- the test of one value, and the rest
 tested : (c : tie.After-is-legal Inv-loop μ-loop) → let l = c .before .before .before in let r = l .before .before .before .args .request in
@@ -46,11 +42,11 @@ are-legal-spec =
     μ-loop
     (λ c κs. search needs)
     loop-holds
-    (λ c κs. omega (arith, value-within c))
-    (λ c. omega (arith, value-within (c .before)))
-    (λ c. omega (arith, value-within (c .before)))
+    (λ c κs. omega (arith, within c))
+    (λ c. omega (arith, within (c .before)))
+    (λ c. omega (arith, within (c .before)))
     (λ c κs. search needs)
-    (λ c. omega (arith, value-within (c .before .before .before)))
+    (λ c. omega (arith, within (c .before .before .before)))
     (λ c. omega (arith, c .before .before .before .loop-test .taken))
     (λ c.
     let l = c .before .before .before .before in

@@ -1,14 +1,13 @@
 -- The loop keeps that the settings that are left lead to the same registers.
 use borrow.Author.Needs.{needs}
 use native.Mathlib.Omega.{arith}
-use Prim.Native.Nat.{ℕ, _-_, _≤_}
+use Prim.Native.Nat.{_-_, _≤_, _<_}
 use mathlib.Core.Path.{_≡_, sym, ap, _∙_}
 use Rattle.ads1299_settings.specs.Settings.{withSettings}
-use Rattle.request.specs.Requests.{valueCount}
-use Rattle.planner.specs.Settings.{settingsFrom, settings}
+use Rattle.request.specs.Requests.{mostValues, valueCount}
+use Rattle.planner.specs.Settings.{settingsFrom}
 use Rattle.planner.specs.Plan.{registersAfter}
-use Rattle.request.proofs.Reading.{few-values}
-use Rattle.planner.proofs.Settings.{settings-step, settings-end}
+use Rattle.planner.proofs.Settings.{settings-start, value-within, settings-step, settings-end}
 use Rattle.planner.proofs.fields.set_all.Statement.{statement}
 use Rattle.planner.proofs.fields.set_all.Tie as tie
 
@@ -21,17 +20,15 @@ abbrev μ-loop : tie.MeasureT-loop
 μ-loop request count values after₀ done₀ after done = count - done
 
 loop-holds : tie.Need-loop-holds Inv-loop μ-loop
-unfolding registersAfter settings
+unfolding registersAfter
 loop-holds c =
-    let e = c .before .count-values .ensures in
+    let n = c .before .count-values in
     let a = c .before .before .args in
-    let r = a .request in
-    let z : c .before .count-values .result - 0 ≡ valueCount (r .field) = omega (arith, e) in
-    (e, (omega arith, sym (ap (λ (n : ℕ). withSettings (a .registers) (r .channel) (settingsFrom r 0 n)) z)))
+    (n .ensures, (omega arith, ap (withSettings (a .registers) (a .request .channel)) (settings-start (a .request) (n .result) (n .ensures))))
 
 -- a value's place is within the array
-value-within : (c : tie.In-loop Inv-loop μ-loop) → c .before .loop .done ≤ 8
-value-within c = let l = c .before in omega (arith, l .loop .inv .0, few-values (l .before .before .before .args .request .field) .1, c .loop-test .taken)
+within : (c : tie.In-loop Inv-loop μ-loop) → c .before .loop .done < mostValues
+within c = let l = c .before in value-within (l .before .before .before .args .request) (l .before .before .count-values .result) (l .loop .done) (l .loop .inv .0) (c .loop-test .taken)
 
 -- one setting made, and the rest
 made : tie.Need-loop-again Inv-loop μ-loop
@@ -63,11 +60,11 @@ set-all-spec =
     μ-loop
     (λ c κs. search needs)
     loop-holds
-    (λ c κs. omega (arith, value-within c))
-    (λ c. omega (arith, value-within (c .before)))
-    (λ c. omega (arith, value-within (c .before)))
+    (λ c κs. omega (arith, within c))
+    (λ c. omega (arith, within (c .before)))
+    (λ c. omega (arith, within (c .before)))
     (λ c κs. search needs)
-    (λ c. omega (arith, value-within (c .before .before)))
+    (λ c. omega (arith, within (c .before .before)))
     (λ c. omega (arith, c .before .before .loop-test .taken))
     made
     returns)
