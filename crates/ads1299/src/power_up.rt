@@ -7,6 +7,9 @@ use ads1299_serial::Output;
 use ads1299_serial::Phase;
 
 impl Converter {
+    // CH1SET to CH8SET at power-up.
+    pub const CHANNEL_POWER_UP: u8 = 0x60;
+
     // The registers' power-up values; the ID's is given.
     pub const POWER_UP: [u8; ads1299_registers::COUNT] = [
         0x00, // ID
@@ -14,14 +17,14 @@ impl Converter {
         0xC0, // CONFIG2
         0x60, // CONFIG3
         0x00, // LOFF
-        0x60, // CH1SET
-        0x60, // CH2SET
-        0x60, // CH3SET
-        0x60, // CH4SET
-        0x60, // CH5SET
-        0x60, // CH6SET
-        0x60, // CH7SET
-        0x60, // CH8SET
+        Self::CHANNEL_POWER_UP, // CH1SET
+        Self::CHANNEL_POWER_UP, // CH2SET
+        Self::CHANNEL_POWER_UP, // CH3SET
+        Self::CHANNEL_POWER_UP, // CH4SET
+        Self::CHANNEL_POWER_UP, // CH5SET
+        Self::CHANNEL_POWER_UP, // CH6SET
+        Self::CHANNEL_POWER_UP, // CH7SET
+        Self::CHANNEL_POWER_UP, // CH8SET
         0x00, // BIAS_SENSP
         0x00, // BIAS_SENSN
         0x00, // LOFF_SENSP

@@ -2,6 +2,10 @@
 use Prim.Native.Nat.{ℕ}
 use mathlib.Core.List.{List, [], _∷_}
 
+-- gives the power-up value of CH1SET to CH8SET (a fresh channel register)
+abbrev pub channelPowerUp : ℕ
+channelPowerUp = 0x60
+
 -- gives each register's power-up value; the ID's is given at power-up
 unfoldable pub powerUp : List ℕ
 powerUp =
@@ -10,14 +14,14 @@ powerUp =
     ∷ 0xC0  -- CONFIG2
     ∷ 0x60  -- CONFIG3
     ∷ 0x00  -- LOFF
-    ∷ 0x60  -- CH1SET
-    ∷ 0x60  -- CH2SET
-    ∷ 0x60  -- CH3SET
-    ∷ 0x60  -- CH4SET
-    ∷ 0x60  -- CH5SET
-    ∷ 0x60  -- CH6SET
-    ∷ 0x60  -- CH7SET
-    ∷ 0x60  -- CH8SET
+    ∷ channelPowerUp  -- CH1SET
+    ∷ channelPowerUp  -- CH2SET
+    ∷ channelPowerUp  -- CH3SET
+    ∷ channelPowerUp  -- CH4SET
+    ∷ channelPowerUp  -- CH5SET
+    ∷ channelPowerUp  -- CH6SET
+    ∷ channelPowerUp  -- CH7SET
+    ∷ channelPowerUp  -- CH8SET
     ∷ 0x00  -- BIAS_SENSP
     ∷ 0x00  -- BIAS_SENSN
     ∷ 0x00  -- LOFF_SENSP
