@@ -161,7 +161,8 @@ RIMEVELVET_ASSERT(sizeof(rimevelvet_written) == 16, "a byte and a size");
 RIMEVELVET_ASSERT(sizeof(rimevelvet_planned) == 112, "a byte, a size and a state");
 
 /*
- * A fresh converter with this ID, all channels owned by party 0.
+ * A fresh converter with this ID, all channels owned by party 0. Its channel registers read 61h: gain 24, inputs shorted, until
+ * field 4 selects another input.
  * Refusal: 13 (the ID's low five bits are not 1Eh); then the power-up state with ID 00 comes back.
  */
 rimevelvet_powered_up rimevelvet_power_up(uint8_t id);

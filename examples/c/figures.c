@@ -1,5 +1,5 @@
 /*
- * The figures of document 01, and those of requests for a whole channel, by way of C. From the repository's root:
+ * The figures of document 01, those of requests for a whole channel and those of fresh channel registers, by way of C. From the repository's root:
  *
  *     rt staticlib capi
  *     gcc -std=c11 -Wall -Wextra -Iinclude examples/c/figures.c target/staticlib/libcapi.a -o target/figures
@@ -88,6 +88,26 @@ static void whole_channels(rimevelvet_converter fresh)
     print_plan("channel 9 whole", command, 1, request, 14);
 }
 
+/* Reads CH1SET to CH8SET of a converter in command mode. */
+static void print_channels(const char *name, rimevelvet_converter command)
+{
+    const uint8_t bytes[10] = {0x25, 0x07};
+    uint8_t out[10];
+    send(command, bytes, 10, out);
+    print_bytes(name, out + 2, 8);
+}
+
+static void fresh_channels(rimevelvet_converter fresh)
+{
+    uint8_t out[4];
+    rimevelvet_converter command = send(fresh, (const uint8_t[]){0x11}, 1, out);
+    print_channels("channel registers after power-up", command);
+    rimevelvet_converter written = send(command, (const uint8_t[]){0x46, 0x01, 0x60, 0x9E}, 4, out);
+    print_channels("after 46 01 60 9E", written);
+    print_channels("after RESET", send(written, (const uint8_t[]){0x06, 0x11}, 2, out));
+    print_plan("input 0, the electrodes, for channel 3", command, 0, one(4, 3, 0), 8);
+}
+
 static void bytes_sent(rimevelvet_converter fresh)
 {
     uint8_t out[4];
@@ -165,6 +185,7 @@ int main(void)
     rimevelvet_converter fresh = rimevelvet_power_up(0x3E).converter;
     plans(fresh);
     whole_channels(fresh);
+    fresh_channels(fresh);
     bytes_sent(fresh);
     readings(fresh);
     requests();

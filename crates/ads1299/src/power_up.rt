@@ -7,8 +7,9 @@ use ads1299_serial::Output;
 use ads1299_serial::Phase;
 
 impl Converter {
-    // CH1SET to CH8SET at power-up.
-    pub const CHANNEL_POWER_UP: u8 = 0x60;
+    // CH1SET to CH8SET at power-up: gain 24, inputs shorted. Document 000's register overview (Table 11) decides; document 02, No. 2
+    // overrides document 01's column.
+    pub const CHANNEL_POWER_UP: u8 = 0x61;
 
     // The registers' power-up values; the ID's is given.
     pub const POWER_UP: [u8; ads1299_registers::COUNT] = [

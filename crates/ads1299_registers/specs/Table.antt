@@ -2,9 +2,10 @@
 use Prim.Native.Nat.{ℕ}
 use mathlib.Core.List.{List, [], _∷_}
 
--- gives the power-up value of CH1SET to CH8SET (a fresh channel register)
+-- gives the power-up value of CH1SET to CH8SET (a fresh channel register): gain 24, inputs shorted. The register overview of document
+-- 000 (its Table 11) decides, not its bit diagram, which shows input select 0; document 02, No. 2 overrides document 01's column
 abbrev pub channelPowerUp : ℕ
-channelPowerUp = 0x60
+channelPowerUp = 0x61
 
 -- gives each register's power-up value; the ID's is given at power-up
 unfoldable pub powerUp : List ℕ

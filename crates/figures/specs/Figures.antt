@@ -51,12 +51,12 @@ used =
     (withOutput (withConverting (withLatest (withOwners (withRegister (withRegister fresh CONFIG1 0xF5) CH1SET 0x00) tenants) (replicate frameLength 0x55)) true) (At 0))
     (replicate frameLength 0xAA)
 
--- gives the table, in the order of document 01
+-- gives the table, in the order of document 01; the bytes for a fresh channel register as document 02, No. 2 has them
 abbrev pub figures : List Figure
 figures =
-    planning command (asks 0 2 3 4 3) 0 (0x47 ∷ 0x00 ∷ 0x40 ∷ [])
-    ∷ planning (withStandby command true) (asks 0 2 3 4 5) 0 (0x02 ∷ 0x47 ∷ 0x00 ∷ 0x40 ∷ 0x04 ∷ [])
-    ∷ planning (withStandby fresh true) (asks 0 2 3 4 7) 0 (0x02 ∷ 0x11 ∷ 0x47 ∷ 0x00 ∷ 0x40 ∷ 0x10 ∷ 0x04 ∷ [])
+    planning command (asks 0 2 3 4 3) 0 (0x47 ∷ 0x00 ∷ 0x41 ∷ [])
+    ∷ planning (withStandby command true) (asks 0 2 3 4 5) 0 (0x02 ∷ 0x47 ∷ 0x00 ∷ 0x41 ∷ 0x04 ∷ [])
+    ∷ planning (withStandby fresh true) (asks 0 2 3 4 7) 0 (0x02 ∷ 0x11 ∷ 0x47 ∷ 0x00 ∷ 0x41 ∷ 0x10 ∷ 0x04 ∷ [])
     ∷ planning (withStandby fresh true) (asks 0 2 3 4 6) 9 []
     ∷ planning (withRegister command BIAS_SENSP 0x12) (asks 0 5 3 1 3) 0 (0x4D ∷ 0x00 ∷ 0x16 ∷ [])
     ∷ running command (0x41 ∷ 0x00 ∷ 0xFF ∷ []) (withRegister command CONFIG1 0xF7) (0x00 ∷ 0x00 ∷ 0x00 ∷ [])

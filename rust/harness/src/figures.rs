@@ -1,6 +1,7 @@
 //! Fixed figures: document 01's own (rows `fig`), the checks drawn from it
 //! rule by rule (rows named after the rule), and those of document 02's No. 1
-//! (rows `no1`). Each panics on a mismatch.
+//! and No. 2 (rows `no1`, `no2`). Bytes for a fresh channel register are as
+//! No. 2 has them. Each panics on a mismatch.
 
 use crate::cells;
 use crate::{Bench, Converter, Direction, Phase, Request, Transfer};
@@ -120,16 +121,16 @@ fn frame_with(first: [u8; 3], channel: usize, code: [u8; 3]) -> [u8; 27] {
 pub fn fig01_to_04_plans(bench: &impl Bench) {
     let gain = [0, 2, 3, 4];
     let c = command_mode(bench);
-    assert_eq!(plan(bench, c, gain, 3).1, [0x47, 0x00, 0x40]);
+    assert_eq!(plan(bench, c, gain, 3).1, [0x47, 0x00, 0x41]);
     let c = after(bench, c, &[0x04]);
-    assert_eq!(plan(bench, c, gain, 5).1, [0x02, 0x47, 0x00, 0x40, 0x04]);
+    assert_eq!(plan(bench, c, gain, 5).1, [0x02, 0x47, 0x00, 0x41, 0x04]);
     let c = after(bench, fresh(bench), &[0x04]);
     let (refusal, bytes, next) = plan(bench, c, gain, 7);
     assert_eq!(
         (refusal, bytes),
-        (0, vec![0x02, 0x11, 0x47, 0x00, 0x40, 0x10, 0x04])
+        (0, vec![0x02, 0x11, 0x47, 0x00, 0x41, 0x10, 0x04])
     );
-    assert!(next.standby && next.continuous && next.registers[7] == 0x40);
+    assert!(next.standby && next.continuous && next.registers[7] == 0x41);
     assert_eq!(plan(bench, c, gain, 6).0, 9);
 }
 
@@ -244,13 +245,13 @@ pub fn fig19_request_reading(bench: &impl Bench) {
 
 pub fn fig20_program_case(bench: &impl Bench) {
     let output = bench.console(&[0x01, 0x02, 0x03, 0x04, 0x02, 0x03, 0x07, 0x02]);
-    assert_eq!(output, b"0 11 47 00 40 10\n7\n1\n");
+    assert_eq!(output, b"0 11 47 00 41 10\n7\n1\n");
 }
 
 // Registers and power-up.
 
 const POWER_UP: [u8; 24] = [
-    0x3E, 0x96, 0xC0, 0x60, 0x00, 0x60, 0x60, 0x60, 0x60, 0x60, 0x60, 0x60, 0x60, 0x00, 0x00, 0x00,
+    0x3E, 0x96, 0xC0, 0x60, 0x00, 0x61, 0x61, 0x61, 0x61, 0x61, 0x61, 0x61, 0x61, 0x00, 0x00, 0x00,
     0x00, 0x00, 0x00, 0x00, 0x0F, 0x00, 0x00, 0x00,
 ];
 const MASKS: [u8; 24] = [
@@ -465,7 +466,7 @@ pub fn byt4_byt16_dropped_command(bench: &impl Bench) {
 pub fn byt5_byt6_registers_change_at_their_own_byte(bench: &impl Bench) {
     let c = command_mode(bench);
     let third = after(bench, c, &[0x45, 0x01, 0x12]);
-    assert_eq!((third.registers[5], third.registers[6]), (0x12, 0x60));
+    assert_eq!((third.registers[5], third.registers[6]), (0x12, 0x61));
     assert_eq!(
         third,
         counting(
@@ -679,7 +680,7 @@ pub fn sel1_sel3_select_rise(bench: &impl Bench) {
             }
         )
     );
-    assert_eq!((next.registers[5], next.registers[6]), (0x12, 0x60));
+    assert_eq!((next.registers[5], next.registers[6]), (0x12, 0x61));
     assert_eq!(bench.deselect(next), (0, next));
     let pending = Converter {
         output: Some(7),
@@ -894,9 +895,9 @@ pub fn pln7_pln8_pln9_places(bench: &impl Bench) {
         let mut tx = before.clone();
         let (refusal, length, next) = bench.plan(c, 0, gain, &mut tx, at);
         if at <= 5 {
-            assert_eq!((refusal, length, next.registers[7]), (0, 7, 0x40));
+            assert_eq!((refusal, length, next.registers[7]), (0, 7, 0x41));
             let mut expected = before.clone();
-            expected[at..at + 7].copy_from_slice(&[0x02, 0x11, 0x47, 0x00, 0x40, 0x10, 0x04]);
+            expected[at..at + 7].copy_from_slice(&[0x02, 0x11, 0x47, 0x00, 0x41, 0x10, 0x04]);
             assert_eq!(tx, expected);
         } else {
             assert_eq!(
@@ -1022,11 +1023,11 @@ pub fn prg1_to_prg6_program(bench: &impl Bench) {
         ),
         (
             &[0x01, 0x1B, 0x00, 0x00, 0x02, 0x09, 0x00, 0x02, 0x01, 0x05],
-            "4\n5\n0 11 45 00 50 10\n",
+            "4\n5\n0 11 45 00 51 10\n",
         ),
         (
             &[0x01, 0x02, 0x01, 0x80, 0x01, 0x01, 0x01, 0x01],
-            "7\n0 11 45 00 E0 10\n",
+            "7\n0 11 45 00 E1 10\n",
         ),
         (
             &[0x00, 0x0C, 0x00, 0x06, 0x0C, 0x00],
@@ -1045,7 +1046,7 @@ pub fn prg5_input_limit(bench: &impl Bench) {
         input.extend([0x02, 0x03, 0x04]);
     }
     assert_eq!(input.len(), 4096);
-    let line = "0 11 47 00 40 10\n";
+    let line = "0 11 47 00 41 10\n";
     assert_eq!(bench.console(&input), line.repeat(1365).into_bytes());
     input.push(0x02);
     assert_eq!(bench.console(&input), b"14\n");
@@ -1216,7 +1217,7 @@ pub fn no1_other_fields_use_one_value(bench: &impl Bench) {
         let mut request = Request::one(2, 3, 4);
         request.values[1..].fill(rest);
         let (refusal, bytes, _) = plan_request(bench, c, 1, request, 3);
-        assert_eq!((refusal, bytes), (0, vec![0x47, 0x00, 0x40]));
+        assert_eq!((refusal, bytes), (0, vec![0x47, 0x00, 0x41]));
         let mut buffer = [0xEE; 4];
         assert_eq!(bench.request_write(request, &mut buffer), (0, 3));
         assert_eq!(buffer, [0x02, 0x03, 0x04, 0xEE]);
@@ -1365,6 +1366,76 @@ pub fn no1_program_input_limit(bench: &impl Bench) {
     assert_eq!(bench.console(&input), b"14\n");
 }
 
+// Document 02's No. 2: fresh channel registers.
+
+/// What a read of CH1SET to CH8SET brings from a converter in command mode.
+fn channel_registers(bench: &impl Bench, c: Converter) -> Vec<u8> {
+    let bytes = [&[0x25, 0x07], &[0x00; 8][..]].concat();
+    send(bench, c, &bytes).0[2..].to_vec()
+}
+
+pub fn no2_read_back(bench: &impl Bench) {
+    for id in [0x1E, 0x3E, 0xFE] {
+        let c = after(bench, bench.power_up(id).1, &[0x11]);
+        assert_eq!(channel_registers(bench, c), [0x61; 8]);
+    }
+    assert_eq!(bench.power_up(0x3D).1.registers[5..13], [0x61; 8]);
+}
+
+pub fn no2_reset_is_power_up(bench: &impl Bench) {
+    for data in [0x00, 0x60, 0x9E, 0xFF] {
+        let write = [&[0x45, 0x07], &[data; 8][..]].concat();
+        let written = after(bench, sampled(bench), &write);
+        assert_eq!(channel_registers(bench, written), [data; 8]);
+        for before in [&[][..], &[0x10], &[0x04, 0x02]] {
+            let c = after(bench, written, &[before, &[0x06]].concat());
+            assert_eq!(c, fresh(bench));
+            let c = after(bench, c, &[0x11]);
+            assert_eq!(channel_registers(bench, c), [0x61; 8]);
+        }
+    }
+}
+
+pub fn no2_fields_of_a_fresh_channel(bench: &impl Bench) {
+    let c = command_mode(bench);
+    for channel in 1..=8 {
+        for (field, value) in (1..).zip([0, 6, 0, 1, 0, 0, 0, 0, 0]) {
+            let cell = cells::find(field, channel).expect("a channel's field");
+            assert_eq!(cell.value(&c.registers), value, "{cell:?}");
+            // To set it to what it is changes nothing.
+            let (refusal, _, next) = plan(bench, c, [0, field, channel, value], 3);
+            assert_eq!((refusal, next), (0, c));
+        }
+    }
+}
+
+pub fn no2_plans(bench: &impl Bench) {
+    let c = command_mode(bench);
+    let rows = [
+        (1, 1, 0xE1),
+        (2, 0, 0x01),
+        (2, 4, 0x41),
+        (3, 1, 0x69),
+        (4, 0, 0x60),
+        (4, 5, 0x65),
+    ];
+    for channel in 1..=8 {
+        for (field, value, data) in rows {
+            let bytes = plan(bench, c, [0, field, channel, value], 3).1;
+            assert_eq!(bytes, [0x44 + channel as u8, 0x00, data]);
+        }
+    }
+}
+
+pub fn no2_program(bench: &impl Bench) {
+    for channel in 1..=8 {
+        let text = bench.console(&[0x01, 0x04, channel, 0x00, 0x01, channel, 0x01]);
+        let command = 0x44 + channel;
+        let expected = format!("0 11 {command:02X} 00 60 10\n0 11 {command:02X} 00 E0 10\n");
+        assert_eq!(text, expected.into_bytes());
+    }
+}
+
 /// Hands the name of every figure to a macro.
 #[macro_export]
 macro_rules! for_each_figure {
@@ -1428,6 +1499,11 @@ macro_rules! for_each_figure {
             no1_writer_judges_all_numbers
             no1_program
             no1_program_input_limit
+            no2_read_back
+            no2_reset_is_power_up
+            no2_fields_of_a_fresh_channel
+            no2_plans
+            no2_program
         }
     };
 }

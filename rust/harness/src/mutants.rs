@@ -50,6 +50,11 @@ pub enum Fault {
     WriterJudgesFirstValueAlone,
     WriterJudgesUnusedValues,
     PlannerJudgesUnusedValues,
+    // Those of fresh channel registers.
+    ChannelsPowerUpAt60h,
+    LastChannelFreshAt60h,
+    ResetChannelsTo60h,
+    RefusedPowerUpAt60h,
 }
 
 pub const LIKELY: [Fault; 10] = [
@@ -102,9 +107,17 @@ pub const WHOLE_CHANNELS: [Fault; 16] = [
     Fault::PlannerJudgesUnusedValues,
 ];
 
+pub const FRESH_CHANNELS: [Fault; 4] = [
+    Fault::ChannelsPowerUpAt60h,
+    Fault::LastChannelFreshAt60h,
+    Fault::ResetChannelsTo60h,
+    Fault::RefusedPowerUpAt60h,
+];
+
 /// Every fault.
 pub fn all() -> impl Iterator<Item = Fault> {
-    LIKELY.into_iter().chain(RARER).chain(WHOLE_CHANNELS)
+    let base = LIKELY.into_iter().chain(RARER);
+    base.chain(WHOLE_CHANNELS).chain(FRESH_CHANNELS)
 }
 
 /// The model with a fault.
@@ -232,7 +245,14 @@ impl Mutant {
 
 impl Bench for Mutant {
     fn power_up(&self, id: u8) -> (u8, Converter) {
-        Model.power_up(id)
+        let (refusal, mut c) = Model.power_up(id);
+        match (self.0, refusal) {
+            (Fault::ChannelsPowerUpAt60h, 0) => c.registers[5..13].fill(0x60),
+            (Fault::LastChannelFreshAt60h, _) => c.registers[12] = 0x60,
+            (Fault::RefusedPowerUpAt60h, 13) => c.registers[5..13].fill(0x60),
+            _ => {}
+        }
+        (refusal, c)
     }
 
     fn step(&self, c: Converter, byte: u8) -> (u8, u8, Converter) {
@@ -245,6 +265,12 @@ impl Bench for Mutant {
         match (self.0, c.phase) {
             (Fault::ResetKeepsMode, Phase::Waiting) if byte == 0x06 => {
                 next.continuous = c.continuous;
+            }
+            (Fault::ResetChannelsTo60h, Phase::Waiting) if byte == 0x06 && !c.standby => {
+                next.registers[5..13].fill(0x60);
+            }
+            (Fault::LastChannelFreshAt60h, Phase::Waiting) if byte == 0x06 && !c.standby => {
+                next.registers[12] = 0x60;
             }
             (Fault::StartKeepsOutput, Phase::Waiting) if byte == 0x08 => {
                 next.output = idle.output;

@@ -15,10 +15,11 @@ pub const READ_BACK: u8 = 0x40;
 /// CHnSET bit: the channel is powered down.
 pub const POWER_DOWN: u8 = 0x80;
 
-/// Values at power-up; the ID entry is replaced by the given ID.
+/// Values at power-up; the ID entry is replaced by the given ID. CHnSET by
+/// document 02, No. 2: gain 24, inputs shorted.
 pub const POWER_UP: [u8; COUNT] = [
     0x00, 0x96, 0xC0, 0x60, 0x00, // ID, CONFIG1, CONFIG2, CONFIG3, LOFF
-    0x60, 0x60, 0x60, 0x60, 0x60, 0x60, 0x60, 0x60, // CH1SET to CH8SET
+    0x61, 0x61, 0x61, 0x61, 0x61, 0x61, 0x61, 0x61, // CH1SET to CH8SET
     0x00, 0x00, 0x00, 0x00, 0x00, // BIAS_SENSP/N, LOFF_SENSP/N, LOFF_FLIP
     0x00, 0x00, 0x0F, // LOFF_STATP, LOFF_STATN, GPIO
     0x00, 0x00, 0x00, // MISC1, MISC2, CONFIG4

@@ -57,6 +57,7 @@ fn whole_channel(bench: State) -> State {
 fn main() {
     // All channels are the administrator's (party 0) after power-up; channel 3 goes to party 1.
     let fresh = rimevelvet::power_up(0x3E).converter;
+    println!("fresh channel registers {}", hex(&fresh.registers[5..13]));
     let bench = rimevelvet::grant(fresh, 0, 1, 3).next;
 
     // Party 1 sets gain field 2 of channel 3 to 4. The plan goes into the transmit buffer.

@@ -35,7 +35,8 @@ impl Request {
     }
 }
 
-/// A converter right after power-up, with this ID. Refused by 13.
+/// A converter right after power-up, with this ID: every channel has gain 24
+/// and its inputs shorted, until field 4 selects another input. Refused by 13.
 pub fn power_up(id: u8) -> PoweredUp {
     // SAFETY: plain values in and out.
     unsafe { ffi::rimevelvet_power_up(id) }
