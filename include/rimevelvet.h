@@ -86,11 +86,22 @@ typedef struct {
     rimevelvet_converter next;
 } rimevelvet_moved;
 
-/* A channel's code and its lead-off bits, 0 or 1. */
+/*
+ * Which end of the range a code sits at, its rail. A trace that is stuck there looks calm; the code tells only that the input was
+ * at that end or beyond.
+ */
+enum {
+    RIMEVELVET_NEITHER = 0,
+    RIMEVELVET_LOWEST = 1, /* -8,388,608 */
+    RIMEVELVET_HIGHEST = 2 /* 8,388,607 */
+};
+
+/* A channel's code with its rail, and its lead-off bits, 0 or 1. */
 typedef struct {
     uint8_t refusal;
     uint8_t p;
     uint8_t n;
+    uint8_t rail; /* RIMEVELVET_NEITHER, _LOWEST or _HIGHEST */
     int32_t code;
 } rimevelvet_reading;
 
@@ -151,7 +162,8 @@ RIMEVELVET_ASSERT(offsetof(rimevelvet_converter, phase) == 91, "phase after shif
 RIMEVELVET_ASSERT(sizeof(rimevelvet_powered_up) == 96, "a byte and a state");
 RIMEVELVET_ASSERT(sizeof(rimevelvet_stepped) == 97, "two bytes and a state");
 RIMEVELVET_ASSERT(sizeof(rimevelvet_moved) == 96, "a byte and a state");
-RIMEVELVET_ASSERT(sizeof(rimevelvet_reading) == 8, "three bytes and a code");
+RIMEVELVET_ASSERT(sizeof(rimevelvet_reading) == 8, "four bytes and a code");
+RIMEVELVET_ASSERT(offsetof(rimevelvet_reading, rail) == 3, "the rail after the lead-off bits");
 RIMEVELVET_ASSERT(sizeof(rimevelvet_part) == 24, "a byte and two sizes");
 RIMEVELVET_ASSERT(sizeof(rimevelvet_request) == 44, "eleven numbers");
 RIMEVELVET_ASSERT(offsetof(rimevelvet_request, values) == 8, "values after field and channel");
@@ -192,8 +204,9 @@ rimevelvet_moved rimevelvet_sample(rimevelvet_converter state, const int32_t *co
 rimevelvet_moved rimevelvet_grant(rimevelvet_converter state, uint32_t caller, uint32_t receiver, uint32_t channel);
 
 /*
- * Reads a channel from a frame, for its owner alone.
- * Refusals: 13, 3, 5, 6, 12; then code and bits are 0.
+ * Reads a channel from a frame, for its owner alone. A channel that was powered down when the frame was built gives code 0, on
+ * neither rail.
+ * Refusals: 13, 3, 5, 6, 12; then code, rail and bits are 0.
  */
 rimevelvet_reading rimevelvet_read_channel(rimevelvet_converter state, uint32_t party, uint32_t channel, const uint8_t *frame,
                                            size_t frame_length);

@@ -1,5 +1,6 @@
 /*
- * The figures of document 01, those of requests for a whole channel and those of fresh channel registers, by way of C. From the repository's root:
+ * The figures of document 01, those of requests for a whole channel, of fresh channel registers and of rails, by way of C. From the
+ * repository's root:
  *
  *     rt staticlib capi
  *     gcc -std=c11 -Wall -Wextra -Iinclude examples/c/figures.c target/staticlib/libcapi.a -o target/figures
@@ -122,6 +123,31 @@ static void bytes_sent(rimevelvet_converter fresh)
     printf("phase after 41: %u, after the select line rises: %u\n", (unsigned)held.phase, (unsigned)rimevelvet_deselect(held).next.phase);
 }
 
+static void print_reading(rimevelvet_converter state, uint32_t party, uint32_t channel, const uint8_t *frame)
+{
+    static const char *const rails[] = {
+        [RIMEVELVET_NEITHER] = "neither rail", [RIMEVELVET_LOWEST] = "lowest rail", [RIMEVELVET_HIGHEST] = "highest rail"};
+    rimevelvet_reading reading = rimevelvet_read_channel(state, party, channel, frame, 27);
+    if (reading.refusal != RIMEVELVET_NONE)
+        printf("refused %u, ", (unsigned)reading.refusal);
+    printf("code %ld, %s, bits %u %u\n", (long)reading.code, rails[reading.rail], (unsigned)reading.p, (unsigned)reading.n);
+}
+
+/* Codes at and beside the ends of the range, the first and the last channel powered down. */
+static void rails(rimevelvet_converter fresh)
+{
+    const int32_t codes[8] = {8388607, 8388607, 8388606, 0, -1, -8388607, -8388608, -8388608};
+    uint8_t tx[RIMEVELVET_LONGEST_PLAN], out[1];
+    rimevelvet_converter state = rimevelvet_plan(fresh, 0, one(1, 1, 1), tx, sizeof tx, 0).next;
+    state = rimevelvet_plan(state, 0, one(1, 8, 1), tx, sizeof tx, 0).next;
+    state = rimevelvet_sample(send(state, (const uint8_t[]){0x08}, 1, out), codes, 8, 0x00, 0x00).next;
+    for (uint32_t channel = 1; channel <= 8; channel++)
+        print_reading(state, 0, channel, state.latest);
+    /* Powered up since: the frame is the one that was built before. */
+    print_reading(rimevelvet_plan(state, 0, one(1, 1, 0), tx, sizeof tx, 0).next, 0, 1, state.latest);
+    print_reading(state, 1, 2, state.latest);
+}
+
 static void readings(rimevelvet_converter fresh)
 {
     const int32_t codes[8] = {8388607, -8388608, -1, 0, 1, 2, 3, 4};
@@ -132,8 +158,7 @@ static void readings(rimevelvet_converter fresh)
     for (uint32_t channel = 1; channel <= 3; channel++) {
         rimevelvet_part part = rimevelvet_channel_bytes(state, 0, channel, state.latest, 27);
         print_bytes("bytes of a channel", state.latest + part.start, part.length);
-        rimevelvet_reading reading = rimevelvet_read_channel(state, 0, channel, state.latest, 27);
-        printf("code %ld, bits %u %u\n", (long)reading.code, (unsigned)reading.p, (unsigned)reading.n);
+        print_reading(state, 0, channel, state.latest);
     }
     printf("a stranger's reading: refused %u\n", (unsigned)rimevelvet_read_channel(state, 1, 1, state.latest, 27).refusal);
     printf("a frame of 26 bytes: refused %u\n", (unsigned)rimevelvet_channel_bytes(state, 0, 1, state.latest, 26).refusal);
@@ -188,6 +213,7 @@ int main(void)
     fresh_channels(fresh);
     bytes_sent(fresh);
     readings(fresh);
+    rails(fresh);
     requests();
     bad_states(fresh);
     return 0;

@@ -1,7 +1,8 @@
-// 24-bit conversion codes, and the three bytes of each (document 01, "Samples and frames").
+// 24-bit conversion codes, the three bytes of each (document 01, "Samples and frames"), and whether one sits on the rail (document 02, No. 3).
 ghost use mathlib.Core.Path.{_≡_};
 ghost use Rattle.ads1299_codes.specs.Codes.{inRange, allInRange, wordOf, codeOf};
 ghost use Rattle.ads1299_codes.specs.Words.{word, wordBytes};
+ghost use Rattle.ads1299_codes.specs.Rails.{railNumber, railOf, decoded};
 
 const LOWEST: i32 = -8388608;
 
@@ -15,6 +16,19 @@ const WORD_COUNT: u32 = 0x1000000;
 
 // The first word whose top bit is 1.
 const SIGN_WORD: u32 = 0x800000;
+
+// Which end of the range a code sits at.
+pub enum Rail {
+    Neither,
+    Lowest,
+    Highest,
+}
+
+// A code and its rail, as three bytes are decoded.
+pub struct Decoded {
+    pub code: i32,
+    pub rail: Rail,
+}
 
 // Whether a number is a code.
 fn in_range(code: i32) -> bool
@@ -43,7 +57,7 @@ pub fn all_in_range(codes: &[i32]) -> bool
 }
 
 // The code of three bytes, high byte first.
-pub fn code(high: u8, middle: u8, low: u8) -> i32
+fn code(high: u8, middle: u8, low: u8) -> i32
     ensures { λ r. ⌜ r ≡ codeOf (word high middle low) ⌝ }
 {
     let word = (high as u32) * 0x10000 + (middle as u32) * 0x100 + (low as u32);
@@ -51,6 +65,41 @@ pub fn code(high: u8, middle: u8, low: u8) -> i32
         word as i32
     } else {
         word as i32 - WORD_COUNT as i32
+    }
+}
+
+// The rail of a code.
+fn classify(code: i32) -> Rail
+    ensures { λ r. ⌜ r ≡ railOf code ⌝ }
+{
+    if code == LOWEST {
+        return Rail::Lowest;
+    }
+    if code == HIGHEST {
+        return Rail::Highest;
+    }
+    Rail::Neither
+}
+
+// Decodes three bytes, high byte first.
+pub fn decode(high: u8, middle: u8, low: u8) -> Decoded
+    ensures { λ r. ⌜ r ≡ decoded (codeOf (word high middle low)) ⌝ }
+{
+    let code = code(high, middle, low);
+    Decoded {
+        code,
+        rail: classify(code),
+    }
+}
+
+// The number that stands for a rail in other languages.
+pub fn rail_number(rail: Rail) -> u8
+    ensures { λ r. ⌜ r ≡ railNumber rail ⌝ }
+{
+    match rail {
+        Rail::Neither => 0,
+        Rail::Lowest => 1,
+        Rail::Highest => 2,
     }
 }
 

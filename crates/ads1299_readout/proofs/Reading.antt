@@ -9,7 +9,8 @@ use lib.Seq.{getD-take, getD-drop}
 use Rattle.bits.specs.Fields.{field}
 use Rattle.ads1299_codes.specs.Codes.{codeOf}
 use Rattle.ads1299_codes.specs.Words.{word, wordAt}
-use Rattle.ads1299_readout.specs.Reading.{isFrame, channelBytes, codeAt, statusP, statusN, LocalReading}
+use Rattle.ads1299_codes.specs.Rails.{railOf}
+use Rattle.ads1299_readout.specs.Reading.{isFrame, channelBytes, codeAt, railAt, statusP, statusN, LocalReading}
 use Rattle.ads1299_codes.proofs.Words.{same-word}
 
 -- a channel's word is that of its three bytes
@@ -27,9 +28,15 @@ module _ (frame : List ℕ) (small : (i : ℕ) → getD frame i 0 < 256) where
   unfolding field word wordAt statusN
   across-n = omega (arith, small 0, small 1, small 2)
 
+same-code : (first second : List ℕ) (channel : ℕ) → channelBytes first channel ≡ channelBytes second channel → codeAt first channel ≡ codeAt second channel
+unfolding codeAt
+same-code first second channel same =
+    ap codeOf (channel-word first channel ∙ ap (λ (bytes : List ℕ). wordAt bytes 0) same ∙ sym (channel-word second channel))
+
 pub local-reading : LocalReading
-unfolding isFrame codeAt
+unfolding isFrame railAt
 local-reading = record {
   framed = λ first second long head. rw (long, head);
-  coded = λ first second channel same. ap codeOf (channel-word first channel ∙ ap (λ (bytes : List ℕ). wordAt bytes 0) same ∙ sym (channel-word second channel));
+  coded = same-code;
+  railed = λ first second channel same. ap railOf (same-code first second channel same);
 }

@@ -9,6 +9,8 @@ use lib.ListN.{length, take, drop, getD}
 use Rattle.bits.specs.Fields.{field, bit}
 use Rattle.ads1299_codes.specs.Codes.{codeOf}
 use Rattle.ads1299_codes.specs.Words.{wordLength, wordAt}
+use Rattle.ads1299_codes.specs.Rails.{railOf}
+use Rattle.ads1299_codes.specs.declared.Rail.{Rail}
 use Rattle.ads1299_frame.specs.Frame.{frameMark, frameLength}
 
 -- gives the first four bits of a list of bytes
@@ -27,6 +29,10 @@ channelBytes frame channel = take wordLength (drop (wordLength * channel) frame)
 unfoldable pub codeAt : List ℕ → ℕ → ℤ
 codeAt frame channel = codeOf (wordAt frame channel)
 
+-- gives the rail of a channel's code
+unfoldable pub railAt : List ℕ → ℕ → Rail
+railAt frame channel = railOf (codeAt frame channel)
+
 -- gives P, the status word's bits 19:12
 unfoldable pub statusP : List ℕ → ℕ
 statusP frame = field (wordAt frame 0) 12 8
@@ -43,8 +49,10 @@ leadOffP frame channel = bit (statusP frame) (channel - 1)
 unfoldable pub leadOffN : List ℕ → ℕ → Bool
 leadOffN frame channel = bit (statusN frame) (channel - 1)
 
--- Bytes that agree in number and first four bits are both a frame or neither, and bytes that agree in a channel's three give it the same code.
+-- Bytes that agree in number and first four bits are both a frame or neither, and bytes that agree in a channel's three give it the same code and the same rail.
 pub record LocalReading : Type 0 where
   pub framed : (first second : List ℕ) → length first ≡ length second → leadingBits first ≡ leadingBits second → isFrame first ≡ isFrame second
   pub coded : (first second : List ℕ) (channel : ℕ) → channelBytes first channel ≡ channelBytes second channel
       → codeAt first channel ≡ codeAt second channel
+  pub railed : (first second : List ℕ) (channel : ℕ) → channelBytes first channel ≡ channelBytes second channel
+      → railAt first channel ≡ railAt second channel

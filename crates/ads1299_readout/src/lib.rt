@@ -3,7 +3,9 @@ ghost use mathlib.Core.Path.{_≡_};
 ghost use Prim.Native.Nat.{_-_};
 ghost use lib.ListN.{getD};
 ghost use Rattle.bits.specs.Fields.{bit};
+ghost use Rattle.ads1299_codes.specs.Rails.{decoded};
 ghost use Rattle.ads1299_readout.specs.Reading.{isFrame, codeAt, leadOffP, leadOffN};
+use ads1299_codes::Decoded;
 use ads1299_codes::WORD_LENGTH;
 
 // The byte at a place of a frame; a missing byte counts as 0.
@@ -24,12 +26,12 @@ pub fn is_frame(frame: &[u8]) -> bool
     }
 }
 
-// The code of a channel, where missing bytes count as 0. Channel 0 gives the status word's.
-pub fn channel_code(frame: &[u8], channel: u32) -> i32
-    ensures { λ r. ⌜ r ≡ codeAt (now (frame .entry)) channel ⌝ }
+// The code of a channel with its rail, where missing bytes count as 0. Channel 0 gives the status word's.
+pub fn decode_channel(frame: &[u8], channel: u32) -> Decoded
+    ensures { λ r. ⌜ r ≡ decoded (codeAt (now (frame .entry)) channel) ⌝ }
 {
     let at = WORD_LENGTH * (channel as usize);
-    ads1299_codes::code(
+    ads1299_codes::decode(
         byte_at(frame, at),
         byte_at(frame, at + 1),
         byte_at(frame, at + 2),

@@ -6,6 +6,8 @@ use mathlib.Core.List.{List}
 use lib.IntN.{pos}
 use lib.ListN.{length}
 use Rattle.refusal.specs.Numbers.{invalidState}
+use Rattle.ads1299_codes.specs.Rails.{railNumber}
+use Rattle.ads1299_codes.specs.declared.Rail.the-variants.{Neither}
 use Rattle.request.specs.declared.Parsed.{Parsed}
 use Rattle.request.specs.declared.Written.{Written}
 use Rattle.ads1299.specs.declared.Converter.{Converter}
@@ -50,12 +52,12 @@ rejected f = record { refusal = invalidState; next = f }
 unfoldable pub movedFrom : FlatConverter → Moved → FlatMoved
 movedFrom f a = cond (isState f) (flatMoved a) (rejected f)
 
--- gives the answer to a reading
+-- gives the answer to a reading, with its rail by number
 unfoldable pub readingFrom : FlatConverter → Reading → FlatReading
 readingFrom f a =
     cond (isState f)
-    (record { refusal = a .refusal; p = flagCode (a .p); n = flagCode (a .n); code = a .code })
-    (record { refusal = invalidState; p = 0; n = 0; code = pos 0 })
+    (record { refusal = a .refusal; p = flagCode (a .p); n = flagCode (a .n); rail = railNumber (a .rail); code = a .code })
+    (record { refusal = invalidState; p = 0; n = 0; rail = railNumber Neither; code = pos 0 })
 
 -- gives the part that the second reading call hands back, as its start and length in the caller's frame; refused where a reading is
 unfoldable pub channelPart : Converter → ℕ → ℕ → List ℕ → FlatPart

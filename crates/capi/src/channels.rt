@@ -9,6 +9,7 @@ use crate::FlatMoved;
 use crate::FlatPart;
 use crate::FlatReading;
 use ads1299::Converter;
+use ads1299_codes::Rail;
 use ads1299_codes::WORD_LENGTH;
 use flat::FlatConverter;
 
@@ -44,10 +45,12 @@ pub extern "C" fn rimevelvet_read_channel(
 {
     if flat::is_state(state) {
         let reading = readings::read_channel(flat::state_of(state), party, channel, frame);
+        let rail = reading.rail;
         FlatReading {
             refusal: reading.refusal,
             p: flat::flag_code(reading.p),
             n: flat::flag_code(reading.n),
+            rail: ads1299_codes::rail_number(rail),
             code: reading.code,
         }
     } else {
@@ -55,6 +58,7 @@ pub extern "C" fn rimevelvet_read_channel(
             refusal: refusal::INVALID_STATE,
             p: 0,
             n: 0,
+            rail: ads1299_codes::rail_number(Rail::Neither),
             code: 0,
         }
     }

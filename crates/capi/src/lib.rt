@@ -28,12 +28,13 @@ pub struct FlatMoved {
     pub next: FlatConverter,
 }
 
-// A channel's code and its bits of P and N, 0 or 1.
+// A channel's code with the number of its rail, and its bits of P and N, 0 or 1.
 #[repr(C)]
 pub struct FlatReading {
     pub refusal: u8,
     pub p: u8,
     pub n: u8,
+    pub rail: u8,
     pub code: i32,
 }
 

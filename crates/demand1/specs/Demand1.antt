@@ -1,6 +1,6 @@
 -- Demand 1: no input makes it fail. That every function returns, for every input, is what its proof shows: no public function has a
 -- `requires`. What is claimed here is what a refusal is: the number of the first test that applies, in the order of document 01,
--- with every other number 0, bits off, an empty part, and every state and buffer as it was given.
+-- with every other number 0, bits off, neither rail, an empty part, and every state and buffer as it was given.
 use Prim.Native.Nat.{ℕ, _≤_, _<_}
 use mathlib.Core.Path.{_≡_}
 use mathlib.Core.Bool.{Bool, true, false, not}
@@ -11,6 +11,7 @@ use lib.ListN.{length, replicate, drop}
 use Rattle.refusal.specs.Numbers.{truncated, malformed, invalidState, inputTooLong}
 use Rattle.refusal.specs.First.{firstOf, accepted, Exact}
 use Rattle.ads1299_registers.specs.Addresses.{channelCount}
+use Rattle.ads1299_codes.specs.declared.Rail.the-variants.{Neither}
 use Rattle.request.specs.declared.Request.{Request}
 use Rattle.request.specs.declared.Parsed.{Parsed}
 use Rattle.request.specs.declared.Written.{Written}
@@ -71,7 +72,7 @@ pub record Demand1 : Type 0 where
       → Judges (grantRefusals s caller receiver channel) (λ (a : Moved). a .refusal) (granted s caller receiver channel) (λ n. moved n s)
   pub read-channel : (s : Converter) (party channel : ℕ) (frame : List ℕ)
       → Judges (readingRefusals s party channel frame) (λ (a : Reading). a .refusal) (channelReading s party channel frame)
-      (λ n. reading n (pos 0) false false)
+      (λ n. reading n (pos 0) Neither false false)
   pub channel-bytes : (s : Converter) (party channel : ℕ) (frame : List ℕ)
       → accepted (firstOf (readingRefusals s party channel frame)) ≡ false
       → partBytes s party channel frame ≡ []

@@ -17,7 +17,7 @@ unfolding channelReading partBytes partPlace
 equal-readings s t party channel first second a =
     let same = same-refusal s t party channel first second a in
     record {
-      readings = simp (same, local-reading .coded first second channel (a .bytes), a .p-bits, a .n-bits);
+      readings = simp (same, local-reading .coded first second channel (a .bytes), local-reading .railed first second channel (a .bytes), a .p-bits, a .n-bits);
       parts = simp (same, a .bytes);
       places = simp same;
     }

@@ -1,4 +1,4 @@
--- A channel's owner reads what was sampled.
+-- A channel's owner reads what was sampled, and 0 where the channel was powered down.
 use Prim.Native.Nat.{ℕ, _+_, _-_, _<_}
 use mathlib.Core.Path.{_≡_, refl, sym, _∙_, ap}
 use mathlib.Core.Bool.{true}
@@ -17,8 +17,8 @@ use Rattle.ads1299_registers.specs.Addresses.{channelCount, CH1SET, GPIO, LOFF_
 use Rattle.ads1299_codes.specs.Codes.{allInRange}
 use Rattle.ads1299_frame.specs.Frame.{poweredDown, shown, frameOf}
 use Rattle.ads1299_readout.specs.Reading.{isFrame}
-use Rattle.ads1299_readout.specs.RoundTrip.{ReadsBack}
-use Rattle.ads1299_readout.proofs.RoundTrip.{frames-read-back}
+use Rattle.ads1299_readout.specs.RoundTrip.{ReadsBack, ShowsZero}
+use Rattle.ads1299_readout.proofs.RoundTrip.{frames-read-back, powered-down-shows-zero}
 use Rattle.ads1299.specs.declared.Converter.{Converter}
 use Rattle.ads1299.specs.declared.Moved.{Moved}
 use Rattle.parties.specs.Parties.{largestParty}
@@ -31,7 +31,7 @@ use Rattle.parties.specs.Parties.{knownParty}
 use Rattle.parties.specs.Owners.{ownerOf, owns}
 use Rattle.ads1299_registers.specs.Channels.{isChannel}
 use Rattle.readings.specs.Reading.{readingRefusal, channelReading, partBytes}
-use Rattle.readings.specs.Claims.{ReadsSample, SamplesReadBack}
+use Rattle.readings.specs.Claims.{ReadsSample, SamplesReadBack, ReadsZero, PoweredDownReadsZero}
 use Rattle.ads1299_registers.proofs.Bounds.{bounds}
 use Rattle.parties.proofs.Owners.{known-at}
 
@@ -60,7 +60,7 @@ module _ (s : Converter) (party channel : ℕ) (v : valid s ≡ true) (c : isCha
       let b = bounds channel c in
       let ok = owner-accepted (s .latest) (r .framed) in
       record {
-        read = simp (ok, r .coded channel (b .low) (b .high), r .p-bit channel, r .n-bit channel);
+        read = simp (ok, r .coded channel (b .low) (b .high), r .railed channel (b .low) (b .high), r .p-bit channel, r .n-bit channel);
         part = simp (ok, r .parted channel (b .low) (b .high));
       }
 
@@ -84,6 +84,28 @@ module _ (s : Converter) (codes : List ℤ) (p n : ℕ) where
       let read = owner-reads (taken s codes p n) (ownerOf (s .owners) channel) channel (whole _ (taken-valid s (parts s v) codes p n)) c (ap (λ (x : List ℕ). ownerOf x channel) taken-owners) registers codes p n back in
       let same = status-shown (s .registers) codes p n channel c in
       record { read = read .read ∙ rw same; part = read .part ∙ rw same }
+
+  -- P and N do not power a channel up
+  taken-down : (channel : ℕ) → isChannel channel ≡ true → poweredDown (s .registers) channel ≡ true → ShowsZero (taken s codes p n .latest) channel
+  unfolding poweredDown
+  taken-down channel c down =
+      let b = bounds channel c in
+      let registers = withStatus (s .registers) p n in
+      let same = status-other (s .registers) p n (CH1SET + (channel - 1)) (λ z. omega arith) (λ z. omega arith) in
+      rw taken-latest (powered-down-shows-zero registers codes p n channel (b .low) (b .high) (rw same down))
+
+reads-zero : (t : Converter) (party channel : ℕ) (frame : List ℕ) → ShowsZero frame channel → ReadsZero (channelReading t party channel frame)
+unfolding channelReading
+reads-zero t party channel frame z =
+    either ReadsZero (accepted (readingRefusal t party channel frame)) (λ e. record { code = z .code; rail = z .rail }) (λ e. record { code = refl; rail = refl })
+
+pub powered-down-reads-zero : PoweredDownReadsZero
+unfolding sampled
+powered-down-reads-zero s codes p n channel e c down t party =
+    let P : Moved → Type 0 = λ m. m .refusal ≡ none → ReadsZero (channelReading t party channel (m .next .latest)) in
+    either P (accepted (sampleRefusal s codes))
+    (λ a z. reads-zero t party channel (taken s codes p n .latest) (taken-down s codes p n channel c down))
+    (λ a z. absurd (eqb-false _ _ a z)) e
 
 pub samples-read-back : SamplesReadBack
 unfolding sampleRefusal sampled

@@ -3,12 +3,14 @@ ghost use mathlib.Core.Path.{_≡_};
 ghost use Prim.Native.Nat.{_+_};
 ghost use Rattle.readings.specs.Reading.{readingRefusal, channelReading, partBytes, partPlace};
 use ads1299::Converter;
+use ads1299_codes::Rail;
 use ads1299_codes::WORD_LENGTH;
 
-// A channel's code and its bits of P and N.
+// A channel's code with its rail, and its bits of P and N.
 pub struct Reading {
     pub refusal: u8,
     pub code: i32,
+    pub rail: Rail,
     pub p: bool,
     pub n: bool,
 }
@@ -39,9 +41,12 @@ pub fn read_channel(converter: Converter, party: u32, channel: u32, frame: &[u8]
 {
     let number = refuse_reading(converter, party, channel, frame);
     if number == refusal::NONE {
+        let decoded = ads1299_readout::decode_channel(frame, channel);
+        let rail = decoded.rail;
         Reading {
             refusal: refusal::NONE,
-            code: ads1299_readout::channel_code(frame, channel),
+            code: decoded.code,
+            rail,
             p: ads1299_readout::lead_off_p(frame, channel),
             n: ads1299_readout::lead_off_n(frame, channel),
         }
@@ -49,6 +54,7 @@ pub fn read_channel(converter: Converter, party: u32, channel: u32, frame: &[u8]
         Reading {
             refusal: number,
             code: 0,
+            rail: Rail::Neither,
             p: false,
             n: false,
         }

@@ -4,7 +4,7 @@
 
 use std::ops::Range;
 
-use harness::{Bench, Converter, Direction, Phase, Request, Transfer};
+use harness::{Bench, Converter, Direction, Phase, Rail, Request, Transfer};
 use rimevelvet::State;
 
 /// The proved library behind its safe wrappers.
@@ -86,6 +86,15 @@ fn flag(code: u8) -> bool {
     code == 1
 }
 
+/// The harness's form of a rail.
+fn rail(rail: rimevelvet::Rail) -> Rail {
+    match rail {
+        rimevelvet::Rail::Neither => Rail::Neither,
+        rimevelvet::Rail::Lowest => Rail::Lowest,
+        rimevelvet::Rail::Highest => Rail::Highest,
+    }
+}
+
 /// The library's form of a request.
 pub fn lent(request: Request) -> rimevelvet::Request {
     let Request {
@@ -132,9 +141,9 @@ impl Bench for Proved {
         party: u32,
         channel: u32,
         frame: &[u8],
-    ) -> (u8, i32, bool, bool) {
+    ) -> (u8, i32, Rail, bool, bool) {
         let a = rimevelvet::read_channel(flat(c), party, channel, frame);
-        (a.refusal, a.code, flag(a.p), flag(a.n))
+        (a.refusal, a.code, rail(a.rail), flag(a.p), flag(a.n))
     }
 
     fn channel_bytes(&self, c: Converter, party: u32, channel: u32, frame: &[u8]) -> Range<usize> {

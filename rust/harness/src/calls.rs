@@ -3,7 +3,7 @@
 use std::collections::VecDeque;
 
 use crate::random::Random;
-use crate::{cells, states, Bench, Converter, Phase, Request, WHOLE_CHANNEL};
+use crate::{cells, states, Bench, Converter, Model, Phase, Rail, Request, WHOLE_CHANNEL};
 
 #[derive(Clone, Debug, PartialEq, Eq)]
 pub enum Call {
@@ -73,6 +73,9 @@ impl Call {
 /// As many numbers as the longest answer has: a request and its bytes used.
 pub const NUMBERS: usize = 12;
 
+/// Where a reading's rail stands among its numbers.
+pub(crate) const RAIL: usize = 1;
+
 /// Everything a call left behind.
 #[derive(Clone, Debug, PartialEq, Eq)]
 pub struct Outcome {
@@ -89,6 +92,15 @@ pub struct Outcome {
 fn filled(numbers: impl IntoIterator<Item = i64>) -> [i64; NUMBERS] {
     let mut numbers = numbers.into_iter();
     std::array::from_fn(|_| numbers.next().unwrap_or(0))
+}
+
+/// A rail's number at the library's boundary.
+fn rail_number(rail: Rail) -> i64 {
+    match rail {
+        Rail::Neither => 0,
+        Rail::Lowest => 1,
+        Rail::Highest => 2,
+    }
 }
 
 /// Makes the call on a copy of its buffer.
@@ -135,9 +147,9 @@ pub fn perform(bench: &impl Bench, c: Converter, call: &Call) -> Outcome {
             channel,
             frame,
         } => {
-            let (refusal, code, p, n) = bench.read_channel(c, *party, *channel, frame);
+            let (refusal, code, rail, p, n) = bench.read_channel(c, *party, *channel, frame);
             outcome.refusal = Some(refusal);
-            outcome.numbers = filled([i64::from(code), i64::from(p), i64::from(n)]);
+            outcome.numbers = filled([code.into(), rail_number(rail), p.into(), n.into()]);
         }
         Call::ChannelBytes {
             party,
@@ -204,15 +216,23 @@ fn byte_to_send(random: &mut Random, c: &Converter) -> u8 {
     }
 }
 
+/// The ends of a code's range, and the codes next to them.
+const ENDS: [i32; 4] = [-8_388_608, -8_388_607, 8_388_606, 8_388_607];
+
 fn code(random: &mut Random) -> i32 {
-    let edges = [
-        0, 1, -1, 127, 128, -128, 32_767, -32_768, 65_535, -65_536, 8_388_607, -8_388_608,
-    ];
-    if random.chance(40) {
-        random.pick(&edges)
-    } else {
-        (random.word() as i32) >> 8
+    let edges = [0, 1, -1, 127, 128, -128, 32_767, -32_768, 65_535, -65_536];
+    match random.below(10) {
+        0..=2 => random.pick(&ENDS),
+        3..=5 => random.pick(&edges),
+        _ => (random.word() as i32) >> 8,
     }
+}
+
+/// The index of a channel that is powered down, if one is.
+fn powered_down(random: &mut Random, c: &Converter) -> Option<usize> {
+    let first = random.below(8);
+    let mut indices = (first..8).chain(0..first);
+    indices.find(|&index| c.registers[5 + index] >= 0x80)
 }
 
 fn sample(random: &mut Random, c: &Converter) -> Call {
@@ -222,6 +242,10 @@ fn sample(random: &mut Random, c: &Converter) -> Call {
         random.pick(&[0, 1, 7, 9, 16])
     };
     let mut codes: Vec<i32> = (0..count).map(|_| code(random)).collect();
+    let powered_down = powered_down(random, c).filter(|&index| index < count);
+    if let Some(index) = powered_down.filter(|_| random.flag()) {
+        codes[index] = random.pick(&ENDS);
+    }
     if count > 0 && random.chance(12) {
         let beyond = [
             8_388_608,
@@ -231,7 +255,6 @@ fn sample(random: &mut Random, c: &Converter) -> Call {
             16_777_215,
             0x0100_0000,
         ];
-        let powered_down = (0..count.min(8)).find(|&index| c.registers[5 + index] >= 0x80);
         let index = powered_down
             .filter(|_| random.flag())
             .unwrap_or(random.below(count));
@@ -291,15 +314,43 @@ fn party_for(random: &mut Random, c: &Converter, channel: u32) -> u32 {
     }
 }
 
+/// Codes at and next to both ends of their range, and around zero, as bytes.
+const END_BYTES: [[u8; 3]; 6] = [
+    [0x7F, 0xFF, 0xFF],
+    [0x7F, 0xFF, 0xFE],
+    [0x80, 0x00, 0x00],
+    [0x80, 0x00, 0x01],
+    [0xFF, 0xFF, 0xFF],
+    [0x00, 0x00, 0x00],
+];
+
+/// Puts codes at and near the ends into most channels of a frame.
+pub(crate) fn plant_ends(random: &mut Random, frame: &mut [u8]) {
+    for channel in frame.chunks_exact_mut(3).skip(1) {
+        if random.chance(80) {
+            channel.copy_from_slice(&random.pick(&END_BYTES));
+        }
+    }
+}
+
+/// Random bytes, more often than not with codes at the ends.
+fn random_frame(random: &mut Random, length: usize) -> Vec<u8> {
+    let mut frame = random.bytes(length);
+    if random.chance(80) {
+        plant_ends(random, &mut frame);
+    }
+    frame
+}
+
 fn frame(random: &mut Random, c: &Converter) -> Vec<u8> {
     let mut frame = match random.below(10) {
         0..=1 => c.latest.to_vec(),
         2 => c.shifting.to_vec(),
         3 => {
             let length = random.pick(&[0, 1, 2, 3, 26, 28, 30, 54]);
-            random.bytes(length)
+            random_frame(random, length)
         }
-        _ => random.bytes(27),
+        _ => random_frame(random, 27),
     };
     if let Some(first) = frame.first_mut() {
         match random.below(10) {
@@ -312,10 +363,10 @@ fn frame(random: &mut Random, c: &Converter) -> Vec<u8> {
 }
 
 fn reading(random: &mut Random, c: &Converter) -> Call {
-    let channel = if random.chance(88) {
-        random.between(1, 8) as u32
-    } else {
-        random.edge(1, 8)
+    let channel = match random.below(50) {
+        0..=9 => powered_down(random, c).unwrap_or(random.below(8)) as u32 + 1,
+        10..=43 => random.between(1, 8) as u32,
+        _ => random.edge(1, 8),
     };
     let party = party_for(random, c, channel);
     let frame = frame(random, c);
@@ -588,12 +639,37 @@ fn send(script: &mut Script, bytes: impl IntoIterator<Item = u8>) {
     script.extend(bytes.into_iter().map(|byte| Call::Step { byte }));
 }
 
+/// The state that a script leads to.
+fn ahead(c: &Converter, script: &Script) -> Converter {
+    let step = |state, call| perform(&Model, state, call).state;
+    script.iter().fold(*c, step)
+}
+
+/// Queues a sample of a channel that is powered down just before or just
+/// after, and its owner's reading of the frame.
+fn queue_power_down(random: &mut Random, c: &Converter, script: &mut Script) {
+    let channel = random.between(1, 8);
+    let before = random.byte();
+    let write = |data| [0x44 + channel as u8, 0x00, data];
+    send(script, [0x02, 0x08, 0x11]);
+    send(script, write(before));
+    let taken = sample(random, &ahead(c, script));
+    script.push_back(taken);
+    send(script, write(before ^ 0x80));
+    let then = ahead(c, script);
+    script.push_back(Call::ReadChannel {
+        party: then.owners[channel - 1].into(),
+        channel: channel as u32,
+        frame: then.latest.to_vec(),
+    });
+}
+
 /// Queues a whole command, a long read-out or a change of modes.
 fn queue_script(random: &mut Random, c: &Converter, script: &mut Script) {
     if random.flag() {
         script.push_back(Call::Deselect);
     }
-    match random.below(10) {
+    match random.below(12) {
         // Let a frame run out, and past its end.
         0 => {
             let idle = random.pick(&[0x00, 0x00, 0x00, 0x01, 0x60, 0xFF]);
@@ -650,6 +726,7 @@ fn queue_script(random: &mut Random, c: &Converter, script: &mut Script) {
                 ],
             );
         }
+        9..=10 => queue_power_down(random, c, script),
         // A plan-like run in whatever mode.
         _ => {
             let register = random.below(24) as u8;

@@ -3,7 +3,7 @@
 use std::collections::BTreeMap;
 use std::fmt;
 
-use crate::calls::{self, Call, Outcome, Script};
+use crate::calls::{self, Call, Outcome, Script, RAIL};
 use crate::random::Random;
 use crate::states::{self, DAMAGES};
 use crate::{Bench, Converter};
@@ -15,6 +15,8 @@ pub struct Stats {
     /// By entry point and refusal number. `channel_bytes` counts as 0 when
     /// its part is not empty; it and `console` count as `None` otherwise.
     pub answers: BTreeMap<(&'static str, Option<u8>), u64>,
+    /// Accepted readings by their rail's number: neither, lowest, highest.
+    pub rails: [u64; 3],
 }
 
 impl Stats {
@@ -23,6 +25,9 @@ impl Stats {
         let number = if whole_part { Some(0) } else { outcome.refusal };
         self.calls += 1;
         *self.answers.entry((call.entry(), number)).or_insert(0) += 1;
+        if matches!(call, Call::ReadChannel { .. }) && number == Some(0) {
+            self.rails[outcome.numbers[RAIL] as usize] += 1;
+        }
     }
 }
 
@@ -40,7 +45,11 @@ impl fmt::Display for Stats {
                 None => write!(f, " -x{count}")?,
             }
         }
-        Ok(())
+        let [neither, lowest, highest] = self.rails;
+        write!(
+            f,
+            "\n  rails read: neither x{neither} lowest x{lowest} highest x{highest}"
+        )
     }
 }
 

@@ -1,10 +1,10 @@
 //! Fixed figures: document 01's own (rows `fig`), the checks drawn from it
 //! rule by rule (rows named after the rule), and those of document 02's No. 1
-//! and No. 2 (rows `no1`, `no2`). Bytes for a fresh channel register are as
+//! to No. 3 (rows `no1` to `no3`). Bytes for a fresh channel register are as
 //! No. 2 has them. Each panics on a mismatch.
 
 use crate::cells;
-use crate::{Bench, Converter, Direction, Phase, Request, Transfer};
+use crate::{Bench, Converter, Direction, Phase, Rail, Request, Transfer};
 
 const NOTHING_READ: Request = Request {
     field: 0,
@@ -109,6 +109,11 @@ fn held(c: Converter, direction: Direction, address: u8, remaining: u8) -> Conve
     }
 }
 
+/// All that a refused reading tells.
+fn unread(refusal: u8) -> (u8, i32, Rail, bool, bool) {
+    (refusal, 0, Rail::Neither, false, false)
+}
+
 fn frame_with(first: [u8; 3], channel: usize, code: [u8; 3]) -> [u8; 27] {
     let mut frame = [0; 27];
     frame[..3].copy_from_slice(&first);
@@ -165,19 +170,19 @@ pub fn fig08_register_read(bench: &impl Bench) {
 
 pub fn fig09_to_11_codes(bench: &impl Bench) {
     let rows = [
-        ([0x7F, 0xFF, 0xFF], 8_388_607),
-        ([0x80, 0x00, 0x00], -8_388_608),
-        ([0xFF, 0xFF, 0xFF], -1),
-        ([0x00, 0x00, 0x00], 0),
-        ([0x00, 0x00, 0x01], 1),
-        ([0xFF, 0xFF, 0xFE], -2),
+        ([0x7F, 0xFF, 0xFF], 8_388_607, Rail::Highest),
+        ([0x80, 0x00, 0x00], -8_388_608, Rail::Lowest),
+        ([0xFF, 0xFF, 0xFF], -1, Rail::Neither),
+        ([0x00, 0x00, 0x00], 0, Rail::Neither),
+        ([0x00, 0x00, 0x01], 1, Rail::Neither),
+        ([0xFF, 0xFF, 0xFE], -2, Rail::Neither),
     ];
     let c = after(bench, command_mode(bench), &[0x08]);
-    for (bytes, code) in rows {
+    for (bytes, code, rail) in rows {
         for channel in 1..=8 {
             let frame = frame_with([0xC0, 0, 0], channel, bytes);
             let reading = bench.read_channel(c, 0, channel as u32, &frame);
-            assert_eq!(reading, (0, code, false, false));
+            assert_eq!(reading, (0, code, rail, false, false));
             let mut codes = [0; 8];
             codes[channel - 1] = code;
             let built = take(bench, c, &codes, 0, 0).latest;
@@ -615,8 +620,8 @@ pub fn byt23_sel2_tot3_broken_states_refused(bench: &impl Bench) {
         assert_eq!(bench.sample(c, &[], 1, 2), (13, c));
         assert_eq!(bench.grant(c, 0, 1, 1), (13, c));
         assert_eq!(bench.grant(c, 9, 9, 9), (13, c));
-        assert_eq!(bench.read_channel(c, 0, 1, &frame), (13, 0, false, false));
-        assert_eq!(bench.read_channel(c, 9, 9, &[]), (13, 0, false, false));
+        assert_eq!(bench.read_channel(c, 0, 1, &frame), unread(13));
+        assert_eq!(bench.read_channel(c, 9, 9, &[]), unread(13));
         assert_eq!(bench.channel_bytes(c, 0, 1, &frame), 0..0);
         assert_eq!(number(bench, c, [0, 2, 3, 4]), 13);
         assert_eq!(number(bench, c, [9, 27, 9, 99]), 13);
@@ -799,10 +804,11 @@ pub fn rdr2_order_and_owner(bench: &impl Bench) {
     ];
     for (party, channel, frame, refusal) in rows {
         let reading = bench.read_channel(c, party, channel, frame);
-        assert_eq!(reading, (refusal, 0, false, false), "{party} {channel}");
+        assert_eq!(reading, unread(refusal), "{party} {channel}");
         assert_eq!(bench.channel_bytes(c, party, channel, frame), 0..0);
     }
-    assert_eq!(bench.read_channel(c, 1, 3, &good), (0, -1, true, true));
+    let reading = bench.read_channel(c, 1, 3, &good);
+    assert_eq!(reading, (0, -1, Rail::Neither, true, true));
     assert_eq!(bench.channel_bytes(c, 1, 3, &good), 9..12);
     assert_eq!(bench.read_channel(c, 1, 3, &c.latest).0, 12);
 }
@@ -816,7 +822,7 @@ pub fn rdr3_lead_off_bits(bench: &impl Bench) {
             let later = take(bench, c, &[0; 8], !p, !n);
             for channel in 1..=8u32 {
                 let own = channel - 1 == bit;
-                let expected = (0, 0, own && p != 0, own && n != 0);
+                let expected = (0, 0, Rail::Neither, own && p != 0, own && n != 0);
                 assert_eq!(bench.read_channel(later, 0, channel, &frame), expected);
             }
         }
@@ -1436,6 +1442,125 @@ pub fn no2_program(bench: &impl Bench) {
     }
 }
 
+// Document 02's No. 3: codes on the rail.
+
+const TOP: [u8; 3] = [0x7F, 0xFF, 0xFF];
+const BOTTOM: [u8; 3] = [0x80, 0x00, 0x00];
+
+/// Both ends of the range, each with its rail.
+const ENDS: [(i32, Rail); 2] = [(8_388_607, Rail::Highest), (-8_388_608, Rail::Lowest)];
+
+/// A frame with every comparator bit set and these bytes for each channel.
+fn frame_full_of(bytes: [u8; 3]) -> [u8; 27] {
+    let mut frame = [0xFF; 27];
+    frame[0] = 0xCF;
+    for part in frame[3..].chunks_exact_mut(3) {
+        part.copy_from_slice(&bytes);
+    }
+    frame
+}
+
+/// Powers a channel of party 0 down (1) or up (0).
+fn powered(bench: &impl Bench, c: Converter, channel: u32, down: u32) -> Converter {
+    let (refusal, _, next) = plan(bench, c, [0, 1, channel, down], 3);
+    assert_eq!(refusal, 0, "power-down field");
+    next
+}
+
+/// Code and rail of a channel of party 0, lead-off bits off.
+fn shown(bench: &impl Bench, c: Converter, channel: u32, frame: &[u8]) -> (i32, Rail) {
+    let (refusal, code, rail, p, n) = bench.read_channel(c, 0, channel, frame);
+    assert_eq!((refusal, p, n), (0, false, false), "channel {channel}");
+    (code, rail)
+}
+
+pub fn no3_rails(bench: &impl Bench) {
+    let rows = [
+        (TOP, 8_388_607, Rail::Highest),
+        ([0x7F, 0xFF, 0xFE], 8_388_606, Rail::Neither),
+        (BOTTOM, -8_388_608, Rail::Lowest),
+        ([0x80, 0x00, 0x01], -8_388_607, Rail::Neither),
+        ([0xFF, 0xFF, 0xFF], -1, Rail::Neither),
+        ([0x00, 0x00, 0x00], 0, Rail::Neither),
+    ];
+    let c = fresh(bench);
+    for others in [TOP, BOTTOM] {
+        for (bytes, code, rail) in rows {
+            for channel in 1..=8 {
+                let mut frame = frame_full_of(others);
+                frame[3 * channel..3 * channel + 3].copy_from_slice(&bytes);
+                let reading = bench.read_channel(c, 0, channel as u32, &frame);
+                assert_eq!(reading, (0, code, rail, true, true), "{bytes:02x?}");
+            }
+        }
+    }
+}
+
+pub fn no3_powered_down_before_the_frame(bench: &impl Bench) {
+    let running = after(bench, command_mode(bench), &[0x08]);
+    for (code, rail) in ENDS {
+        for down in 1..=8 {
+            let c = powered(bench, running, down, 1);
+            let c = take(bench, c, &[code; 8], 0, 0);
+            let up = powered(bench, c, down, 0);
+            for channel in 1..=8 {
+                let expected = if channel == down {
+                    (0, Rail::Neither)
+                } else {
+                    (code, rail)
+                };
+                assert_eq!(shown(bench, c, channel, &c.latest), expected);
+                // The frame stays what it was when it was built.
+                assert_eq!(shown(bench, up, channel, &c.latest), expected);
+            }
+            let next = take(bench, up, &[code; 8], 0, 0);
+            assert_eq!(shown(bench, next, down, &next.latest), (code, rail));
+        }
+    }
+}
+
+pub fn no3_powered_down_after_the_frame(bench: &impl Bench) {
+    let running = after(bench, command_mode(bench), &[0x08]);
+    for (code, rail) in ENDS {
+        let c = take(bench, running, &[code; 8], 0, 0);
+        for channel in 1..=8 {
+            let down = powered(bench, c, channel, 1);
+            assert_eq!(shown(bench, down, channel, &c.latest), (code, rail));
+            let next = take(bench, down, &[code; 8], 0, 0);
+            let reading = shown(bench, next, channel, &next.latest);
+            assert_eq!(reading, (0, Rail::Neither));
+        }
+    }
+}
+
+pub fn no3_refusals_are_neither(bench: &impl Bench) {
+    let c = granted(bench, fresh(bench), 1, 3);
+    for bytes in [TOP, BOTTOM] {
+        let good = frame_full_of(bytes);
+        let long = [&good[..], &bytes].concat();
+        let rows: [(u32, u32, &[u8], u8); 10] = [
+            (9, 3, &good, 3),
+            (256 + 1, 3, &good, 3),
+            (1, 0, &good, 5),
+            (1, 9, &good, 5),
+            (1, 256 + 3, &good, 5),
+            (0, 3, &good, 6),
+            (2, 3, &good, 6),
+            (1, 3, &good[..26], 12),
+            (1, 3, &long, 12),
+            (1, 3, &bytes.repeat(9), 12),
+        ];
+        for (party, channel, frame, refusal) in rows {
+            let reading = bench.read_channel(c, party, channel, frame);
+            assert_eq!(reading, unread(refusal), "{party} {channel}");
+        }
+        for broken in broken_states(bench) {
+            assert_eq!(bench.read_channel(broken, 0, 3, &good), unread(13));
+        }
+        assert_ne!(bench.read_channel(c, 1, 3, &good).2, Rail::Neither);
+    }
+}
+
 /// Hands the name of every figure to a macro.
 #[macro_export]
 macro_rules! for_each_figure {
@@ -1504,6 +1629,10 @@ macro_rules! for_each_figure {
             no2_fields_of_a_fresh_channel
             no2_plans
             no2_program
+            no3_rails
+            no3_powered_down_before_the_frame
+            no3_powered_down_after_the_frame
+            no3_refusals_are_neither
         }
     };
 }

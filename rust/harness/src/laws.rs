@@ -1,9 +1,11 @@
 //! Laws that tie a bench's answers to each other, checked on random calls.
 
+use std::ops::Range;
+
 use crate::calls::{self, Call, Outcome, NUMBERS};
 use crate::compare::Driver;
 use crate::random::Random;
-use crate::{Bench, Converter, Phase, Request, WHOLE_CHANNEL};
+use crate::{Bench, Converter, Phase, Rail, Request, WHOLE_CHANNEL};
 
 fn ensure(condition: bool, law: &str) -> Result<(), String> {
     if condition {
@@ -167,7 +169,17 @@ fn request_laws(bench: &impl Bench, call: &Call, outcome: &Outcome) -> Result<()
     }
 }
 
-/// Reading the sample's own frame gives its codes and comparator bits.
+/// The rail that a code sits on.
+pub(crate) fn rail_of(code: i32) -> Rail {
+    match code {
+        -8_388_608 => Rail::Lowest,
+        8_388_607 => Rail::Highest,
+        _ => Rail::Neither,
+    }
+}
+
+/// Reading the sample's own frame gives its codes with their rails, and its
+/// comparator bits.
 fn sample_law(
     bench: &impl Bench,
     given: &Converter,
@@ -181,7 +193,8 @@ fn sample_law(
         let powered_down = given.registers[4 + channel] >= 0x80;
         let shown = if powered_down { 0 } else { codes[channel - 1] };
         let bit = channel - 1;
-        let expected = (0, shown, p >> bit & 1 == 1, n >> bit & 1 == 1);
+        let (own_p, own_n) = (p >> bit & 1 == 1, n >> bit & 1 == 1);
+        let expected = (0, shown, rail_of(shown), own_p, own_n);
         let owner = u32::from(after.owners[bit]);
         let reading = bench.read_channel(*after, owner, channel as u32, &after.latest);
         ensure(
@@ -190,6 +203,38 @@ fn sample_law(
         )?;
     }
     Ok(())
+}
+
+/// A code at an end of its range comes with that end, every other code and
+/// every refusal with neither.
+fn rail_law(refusal: u8, code: i32, rail: Rail) -> Result<(), String> {
+    let expected = match refusal {
+        0 => rail_of(code),
+        _ => Rail::Neither,
+    };
+    ensure(rail == expected, "a rail is that of the code read")
+}
+
+/// A channel's three bytes in a frame, or none of them.
+fn part_of(refusal: u8, channel: u32) -> Range<usize> {
+    match refusal {
+        0 => 3 * channel as usize..3 * channel as usize + 3,
+        _ => 0..0,
+    }
+}
+
+/// The frame with all else changed that a channel's reading may not look at.
+fn changed_around(random: &mut Random, channel: u32, frame: &[u8]) -> Vec<u8> {
+    let mut other = frame.to_vec();
+    random.fill(&mut other);
+    if random.flag() {
+        calls::plant_ends(random, &mut other);
+    }
+    for (index, byte) in other.iter_mut().enumerate() {
+        let kept = kept_bits(channel, index);
+        *byte = frame[index] & kept | *byte & !kept;
+    }
+    other
 }
 
 /// A reading depends on the owners and the channel's own part of the frame.
@@ -213,25 +258,16 @@ fn reading_law(
         return Ok(());
     };
     let reading = bench.read_channel(*c, *party, *channel, frame);
+    rail_law(reading.0, reading.1, reading.2)?;
     let part = bench.channel_bytes(*c, *party, *channel, frame);
-    let expected = if reading.0 == 0 {
-        3 * *channel as usize..3 * *channel as usize + 3
-    } else {
-        0..0
-    };
     ensure(
-        part == expected,
+        part == part_of(reading.0, *channel),
         "the part is the channel's three bytes, or empty",
     )?;
     if bench.deselect(*c).0 != 0 {
         return Ok(());
     }
-    let mut other = frame.clone();
-    random.fill(&mut other);
-    for (index, byte) in other.iter_mut().enumerate() {
-        let kept = kept_bits(*channel, index);
-        *byte = frame[index] & kept | *byte & !kept;
-    }
+    let other = changed_around(random, *channel, frame);
     let mut state = crate::states::valid(random);
     state.owners = c.owners;
     ensure(

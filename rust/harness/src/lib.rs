@@ -17,7 +17,7 @@ pub mod states;
 use std::ops::Range;
 
 pub use compare::{compare, Disagreement, Stats};
-pub use model::{Converter, Direction, Phase, Request, Transfer, WHOLE_CHANNEL};
+pub use model::{Converter, Direction, Phase, Rail, Request, Transfer, WHOLE_CHANNEL};
 
 /// The entry points of a bench. Each answer begins with its refusal number,
 /// except `channel_bytes` (a place in the frame) and `console` (its output).
@@ -32,14 +32,14 @@ pub trait Bench {
     fn sample(&self, c: Converter, codes: &[i32], p: u8, n: u8) -> (u8, Converter);
     /// (refusal, state)
     fn grant(&self, c: Converter, caller: u32, receiver: u32, channel: u32) -> (u8, Converter);
-    /// (refusal, code, P bit, N bit)
+    /// (refusal, code, rail, P bit, N bit)
     fn read_channel(
         &self,
         c: Converter,
         party: u32,
         channel: u32,
         frame: &[u8],
-    ) -> (u8, i32, bool, bool);
+    ) -> (u8, i32, Rail, bool, bool);
     /// Where the returned part lies in `frame`; any empty part counts as 0..0.
     fn channel_bytes(&self, c: Converter, party: u32, channel: u32, frame: &[u8]) -> Range<usize>;
     /// (refusal, request, bytes used)
@@ -94,7 +94,7 @@ impl Bench for Model {
         party: u32,
         channel: u32,
         frame: &[u8],
-    ) -> (u8, i32, bool, bool) {
+    ) -> (u8, i32, Rail, bool, bool) {
         model::read_channel(c, party, channel, frame)
     }
     fn channel_bytes(&self, c: Converter, party: u32, channel: u32, frame: &[u8]) -> Range<usize> {

@@ -1,8 +1,10 @@
 //! Wrong benches: the model with one thing spoilt in each.
 
+use std::cell::Cell;
 use std::ops::Range;
 
-use crate::{cells, Bench, Converter, Model, Phase, Request, Transfer, WHOLE_CHANNEL};
+use crate::laws::rail_of;
+use crate::{cells, Bench, Converter, Model, Phase, Rail, Request, Transfer, WHOLE_CHANNEL};
 
 #[derive(Clone, Copy, Debug, PartialEq, Eq)]
 pub enum Fault {
@@ -55,6 +57,16 @@ pub enum Fault {
     LastChannelFreshAt60h,
     ResetChannelsTo60h,
     RefusedPowerUpAt60h,
+    // Those of codes on the rail.
+    BelowHighestOnTheRail,
+    AboveLowestOnTheRail,
+    EndsExchanged,
+    RefusedAtTheHighest,
+    RailLeaksOnRefusal,
+    RailOfTheNeighbour,
+    RailBeforePowerDown,
+    RailOffOncePoweredDown,
+    NeverOnTheRail,
 }
 
 pub const LIKELY: [Fault; 10] = [
@@ -114,20 +126,61 @@ pub const FRESH_CHANNELS: [Fault; 4] = [
     Fault::RefusedPowerUpAt60h,
 ];
 
+pub const RAILS: [Fault; 9] = [
+    Fault::BelowHighestOnTheRail,
+    Fault::AboveLowestOnTheRail,
+    Fault::EndsExchanged,
+    Fault::RefusedAtTheHighest,
+    Fault::RailLeaksOnRefusal,
+    Fault::RailOfTheNeighbour,
+    Fault::RailBeforePowerDown,
+    Fault::RailOffOncePoweredDown,
+    Fault::NeverOnTheRail,
+];
+
 /// Every fault.
 pub fn all() -> impl Iterator<Item = Fault> {
     let base = LIKELY.into_iter().chain(RARER);
-    base.chain(WHOLE_CHANNELS).chain(FRESH_CHANNELS)
+    let requests = base.chain(WHOLE_CHANNELS);
+    requests.chain(FRESH_CHANNELS).chain(RAILS)
 }
 
+/// A frame and the codes it was built from.
+type Sampled = ([u8; 27], [i32; 8]);
+
 /// The model with a fault.
-#[derive(Clone, Copy, Debug)]
-pub struct Mutant(pub Fault);
+#[derive(Clone, Debug)]
+pub struct Mutant {
+    fault: Fault,
+    /// Of the latest accepted sample: a state holds no codes.
+    sampled: Cell<Option<Sampled>>,
+}
 
 impl Mutant {
-    fn has(&self, fault: Fault) -> bool {
-        self.0 == fault
+    pub fn new(fault: Fault) -> Mutant {
+        Mutant {
+            fault,
+            sampled: Cell::new(None),
+        }
     }
+
+    fn has(&self, fault: Fault) -> bool {
+        self.fault == fault
+    }
+}
+
+/// What the party would read were the channel its own.
+fn read_as_owner(
+    c: Converter,
+    party: u32,
+    channel: u32,
+    frame: &[u8],
+) -> (u8, i32, Rail, bool, bool) {
+    let mut owned = c;
+    if (1..=8).contains(&channel) {
+        owned.owners[channel as usize - 1] = party.min(8) as u8;
+    }
+    Model.read_channel(owned, party, channel, frame)
 }
 
 /// The state without a command whose address and count sum past 255.
@@ -197,7 +250,7 @@ impl Mutant {
         tx: &mut [u8],
         at: usize,
     ) -> (u8, usize, Converter) {
-        match self.0 {
+        match self.fault {
             // Judged as a number that no field has, and as a shared field's.
             Fault::WholeChannelUnknown => request.field = 31,
             Fault::WholeChannelShared => request.field = 10,
@@ -206,7 +259,7 @@ impl Mutant {
         let room = tx.len().saturating_sub(at);
         let start = usize::from(c.standby) + usize::from(c.continuous);
         let (refusal, length, mut after) = Model.plan(c, party, request, tx, at);
-        match (self.0, refusal) {
+        match (self.fault, refusal) {
             (Fault::ChannelValuesBeforeOwner, 6) if !cells::admitted(&request) => {
                 return (7, 0, c);
             }
@@ -241,12 +294,70 @@ impl Mutant {
         }
         (refusal, length, after)
     }
+
+    /// The answer to a sample.
+    fn sample_answer(&self, c: Converter, codes: &[i32], p: u8, n: u8) -> (u8, Converter) {
+        let (refusal, mut next) = Model.sample(c, codes, p, n);
+        match (self.fault, refusal) {
+            (Fault::CodesBeforeStopped, 10) => {
+                let running = Converter {
+                    converting: true,
+                    standby: false,
+                    ..c
+                };
+                let refusal = Model.sample(running, codes, p, n).0;
+                (if refusal == 11 { 11 } else { 10 }, c)
+            }
+            (Fault::PoweredDownCodeUnchecked, 11) if codes.len() == 8 => {
+                let unmasked: Vec<i32> = (0..8)
+                    .map(|index| {
+                        if c.registers[5 + index] >= 0x80 {
+                            0
+                        } else {
+                            codes[index]
+                        }
+                    })
+                    .collect();
+                Model.sample(c, &unmasked, p, n)
+            }
+            (Fault::SamplePlacedThroughMask, 0) => {
+                next.registers[0x12..=0x13].copy_from_slice(&c.registers[0x12..=0x13]);
+                (0, next)
+            }
+            _ => (refusal, next),
+        }
+    }
+
+    /// The rail in the answer to a reading.
+    fn rail(&self, c: Converter, party: u32, channel: u32, frame: &[u8]) -> Rail {
+        let (refusal, code, rail, ..) = Model.read_channel(c, party, channel, frame);
+        let place = channel.wrapping_sub(1) as usize;
+        match (self.fault, refusal) {
+            (Fault::BelowHighestOnTheRail, 0) if code == 8_388_606 => Rail::Highest,
+            (Fault::AboveLowestOnTheRail, 0) if code == -8_388_607 => Rail::Lowest,
+            (Fault::EndsExchanged, 0) => match rail {
+                Rail::Neither => Rail::Neither,
+                Rail::Lowest => Rail::Highest,
+                Rail::Highest => Rail::Lowest,
+            },
+            (Fault::RefusedAtTheHighest, 1..) => Rail::Highest,
+            (Fault::RailLeaksOnRefusal, 6) => read_as_owner(c, party, channel, frame).2,
+            (Fault::RailOfTheNeighbour, 0) => read_as_owner(c, party, channel % 8 + 1, frame).2,
+            (Fault::RailBeforePowerDown, 0) => match self.sampled.get() {
+                Some((built, codes)) if built[..] == *frame => rail_of(codes[place]),
+                _ => rail,
+            },
+            (Fault::RailOffOncePoweredDown, 0) if c.registers[5 + place] >= 0x80 => Rail::Neither,
+            (Fault::NeverOnTheRail, _) => Rail::Neither,
+            _ => rail,
+        }
+    }
 }
 
 impl Bench for Mutant {
     fn power_up(&self, id: u8) -> (u8, Converter) {
         let (refusal, mut c) = Model.power_up(id);
-        match (self.0, refusal) {
+        match (self.fault, refusal) {
             (Fault::ChannelsPowerUpAt60h, 0) => c.registers[5..13].fill(0x60),
             (Fault::LastChannelFreshAt60h, _) => c.registers[12] = 0x60,
             (Fault::RefusedPowerUpAt60h, 13) => c.registers[5..13].fill(0x60),
@@ -262,7 +373,7 @@ impl Bench for Mutant {
         }
         let idle = Model.step(c, 0x00).2;
         let waiting = c.phase == Phase::Waiting;
-        match (self.0, c.phase) {
+        match (self.fault, c.phase) {
             (Fault::ResetKeepsMode, Phase::Waiting) if byte == 0x06 => {
                 next.continuous = c.continuous;
             }
@@ -316,35 +427,11 @@ impl Bench for Mutant {
     }
 
     fn sample(&self, c: Converter, codes: &[i32], p: u8, n: u8) -> (u8, Converter) {
-        let (refusal, mut next) = Model.sample(c, codes, p, n);
-        match (self.0, refusal) {
-            (Fault::CodesBeforeStopped, 10) => {
-                let running = Converter {
-                    converting: true,
-                    standby: false,
-                    ..c
-                };
-                let refusal = Model.sample(running, codes, p, n).0;
-                (if refusal == 11 { 11 } else { 10 }, c)
-            }
-            (Fault::PoweredDownCodeUnchecked, 11) if codes.len() == 8 => {
-                let unmasked: Vec<i32> = (0..8)
-                    .map(|index| {
-                        if c.registers[5 + index] >= 0x80 {
-                            0
-                        } else {
-                            codes[index]
-                        }
-                    })
-                    .collect();
-                Model.sample(c, &unmasked, p, n)
-            }
-            (Fault::SamplePlacedThroughMask, 0) => {
-                next.registers[0x12..=0x13].copy_from_slice(&c.registers[0x12..=0x13]);
-                (0, next)
-            }
-            _ => (refusal, next),
+        let (refusal, next) = self.sample_answer(c, codes, p, n);
+        if let (0, Ok(codes)) = (refusal, codes.try_into()) {
+            self.sampled.set(Some((next.latest, codes)));
         }
+        (refusal, next)
     }
 
     fn grant(&self, c: Converter, caller: u32, receiver: u32, channel: u32) -> (u8, Converter) {
@@ -361,29 +448,22 @@ impl Bench for Mutant {
         party: u32,
         channel: u32,
         frame: &[u8],
-    ) -> (u8, i32, bool, bool) {
-        let (refusal, mut code, mut p, mut n) = Model.read_channel(c, party, channel, frame);
-        let mut lenient = c;
-        if (1..=8).contains(&channel) {
-            lenient.owners[channel as usize - 1] = party.min(8) as u8;
-        }
-        match (self.0, refusal) {
+    ) -> (u8, i32, Rail, bool, bool) {
+        let (refusal, mut code, _, mut p, mut n) = Model.read_channel(c, party, channel, frame);
+        match (self.fault, refusal) {
             (Fault::ZeroFilledNegativeCode, 0) => code &= 0x00FF_FFFF,
             (Fault::LeadOffBitFromTheLeft, 0) => {
-                let mirrored = 9 - channel;
-                let mut own = c;
-                own.owners[mirrored as usize - 1] = party as u8;
-                (_, _, p, n) = Model.read_channel(own, party, mirrored, frame);
+                (_, _, _, p, n) = read_as_owner(c, party, 9 - channel, frame);
             }
             (Fault::AdministratorReadsAll, 6) if party == 0 => {
-                return Model.read_channel(lenient, party, channel, frame);
+                return read_as_owner(c, party, channel, frame);
             }
             (Fault::CodeLeaksOnRefusal, 6) => {
-                code = Model.read_channel(lenient, party, channel, frame).1;
+                code = read_as_owner(c, party, channel, frame).1;
             }
             _ => {}
         }
-        (refusal, code, p, n)
+        (refusal, code, self.rail(c, party, channel, frame), p, n)
     }
 
     fn channel_bytes(&self, c: Converter, party: u32, channel: u32, frame: &[u8]) -> Range<usize> {
@@ -393,7 +473,7 @@ impl Bench for Mutant {
     fn request_read(&self, bytes: &[u8]) -> (u8, Request, usize) {
         let (refusal, mut request, mut used) = Model.request_read(bytes);
         let whole = request.field == WHOLE_CHANNEL;
-        match (self.0, refusal) {
+        match (self.fault, refusal) {
             (Fault::CountAlwaysTwo, 0) => used = 2,
             (Fault::UnreadValuesRepeatTheFirst, 0) if !whole => {
                 request.values = [request.values[0]; 9];
@@ -450,12 +530,12 @@ impl Bench for Mutant {
         } else {
             at
         };
-        if request.field == WHOLE_CHANNEL && WHOLE_CHANNELS.contains(&self.0) {
+        if request.field == WHOLE_CHANNEL && WHOLE_CHANNELS.contains(&self.fault) {
             return self.plan_whole_channel(c, party, request, tx, at);
         }
         let given = tx.to_vec();
         let (refusal, length, after) = Model.plan(c, party, request, tx, at);
-        match (self.0, refusal) {
+        match (self.fault, refusal) {
             (Fault::SharedRegisterFromPowerUp, 0) if (5..=9).contains(&request.field) => {
                 let mut wiped = c;
                 let register = 0x0D + request.field as usize - 5;

@@ -31,7 +31,7 @@ fn disturbing_benches_are_noticed() {
         Fault::PlannerJudgesUnusedValues,
     ] {
         let result = std::panic::catch_unwind(|| {
-            isolation::check(&Mutant(fault), 2_000, settings::DEFAULT_SEED)
+            isolation::check(&Mutant::new(fault), 2_000, settings::DEFAULT_SEED)
         });
         assert!(!matches!(result, Ok(Ok(_))), "{fault:?} went unnoticed");
     }

@@ -13,7 +13,8 @@ fn comparison_notices_every_fault() {
     for fault in mutants::all() {
         let mut latest = 0;
         for offset in 0..5 {
-            let found = compare(&Model, &Mutant(fault), WITHIN, seed.wrapping_add(offset))
+            let (mutant, seed) = (Mutant::new(fault), seed.wrapping_add(offset));
+            let found = compare(&Model, &mutant, WITHIN, seed)
                 .expect_err(&format!("{fault:?} went unnoticed"));
             latest = latest.max(found.index + 1);
         }
@@ -24,14 +25,21 @@ fn comparison_notices_every_fault() {
 #[test]
 fn figures_notice_every_fault() {
     for fault in mutants::all() {
-        let outcome = std::panic::catch_unwind(|| figures::all(&Mutant(fault)));
+        let outcome = std::panic::catch_unwind(|| figures::all(&Mutant::new(fault)));
         assert!(outcome.is_err(), "{fault:?} passes every figure");
+    }
+}
+
+fn each_breaks_a_law(faults: &[Fault]) {
+    for &fault in faults {
+        let broken = laws::check(&Mutant::new(fault), WITHIN, settings::DEFAULT_SEED);
+        assert!(broken.is_err(), "{fault:?} breaks no law");
     }
 }
 
 #[test]
 fn laws_notice_requests_at_odds_with_each_other() {
-    for fault in [
+    each_breaks_a_law(&[
         Fault::ChannelRunOfSix,
         Fault::EightValuesJudged,
         Fault::NinthValueInEighthRegister,
@@ -41,8 +49,11 @@ fn laws_notice_requests_at_odds_with_each_other() {
         Fault::UnreadValuesRepeatTheFirst,
         Fault::WriterJudgesUnusedValues,
         Fault::PlannerJudgesUnusedValues,
-    ] {
-        let broken = laws::check(&Mutant(fault), WITHIN, settings::DEFAULT_SEED);
-        assert!(broken.is_err(), "{fault:?} breaks no law");
-    }
+    ]);
+}
+
+/// All of them: a rail is at odds with its code, or stands in a refusal.
+#[test]
+fn laws_notice_every_wrong_rail() {
+    each_breaks_a_law(&mutants::RAILS);
 }

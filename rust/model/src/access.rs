@@ -2,7 +2,7 @@
 
 use std::ops::Range;
 
-use crate::frame;
+use crate::frame::{self, Rail};
 use crate::refusal::{ensure, Refusal};
 use crate::state::{check_channel, check_party, Converter, ADMINISTRATOR, FRAME_LENGTH};
 
@@ -48,16 +48,21 @@ fn bytes_of(channel: usize) -> Range<usize> {
     3 * channel..3 * channel + 3
 }
 
-/// A party's reading of its channel: (refusal, code, P bit, N bit).
-pub fn read_channel(c: Converter, party: u32, channel: u32, frame: &[u8]) -> (u8, i32, bool, bool) {
+/// A party's reading of its channel: (refusal, code, rail, P bit, N bit).
+pub fn read_channel(
+    c: Converter,
+    party: u32,
+    channel: u32,
+    frame: &[u8],
+) -> (u8, i32, Rail, bool, bool) {
     match accept_reading(&c, party, channel, frame) {
         Ok((channel, frame)) => {
             let at = 3 * channel;
-            let code = frame::decode([frame[at], frame[at + 1], frame[at + 2]]);
+            let (code, rail) = frame::decode([frame[at], frame[at + 1], frame[at + 2]]);
             let (p, n) = frame::lead_off(frame, channel);
-            (0, code, p, n)
+            (0, code, rail, p, n)
         }
-        Err(refusal) => (refusal.number(), 0, false, false),
+        Err(refusal) => (refusal.number(), 0, Rail::Neither, false, false),
     }
 }
 

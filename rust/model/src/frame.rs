@@ -7,16 +7,33 @@ use crate::state::{Converter, CHANNELS, FRAME_LENGTH};
 pub const CODE_MIN: i32 = -8_388_608;
 pub const CODE_MAX: i32 = 8_388_607;
 
+/// Which end of the range a code is, if it is one.
+#[derive(Clone, Copy, Debug, PartialEq, Eq)]
+pub enum Rail {
+    Neither,
+    Lowest,
+    Highest,
+}
+
+fn rail(code: i32) -> Rail {
+    match code {
+        CODE_MIN => Rail::Lowest,
+        CODE_MAX => Rail::Highest,
+        _ => Rail::Neither,
+    }
+}
+
 /// Two's complement, high byte first; for codes in range.
 pub fn encode(code: i32) -> [u8; 3] {
     let [_, high, middle, low] = code.to_be_bytes();
     [high, middle, low]
 }
 
-/// The signed code in three bytes.
-pub fn decode(bytes: [u8; 3]) -> i32 {
+/// The signed code in three bytes, and its rail.
+pub fn decode(bytes: [u8; 3]) -> (i32, Rail) {
     let [high, middle, low] = bytes;
-    i32::from_be_bytes([high, middle, low, 0]) >> 8
+    let code = i32::from_be_bytes([high, middle, low, 0]) >> 8;
+    (code, rail(code))
 }
 
 /// The frame of a sample, for the registers as they stand.

@@ -1,8 +1,8 @@
 //! Plain Rust model of a shared EEG test bench around one ADS1299.
 //!
-//! Written from the text of document 01 and of document 02's No. 1 alone.
-//! Their words map to these terms: keeper = administrator, workshop = tenant,
-//! slip = setting request, sheet = transmit buffer.
+//! Written from the text of document 01 and of document 02's No. 1 to No. 3
+//! alone. Their words map to these terms: keeper = administrator, workshop =
+//! tenant, slip = setting request, sheet = transmit buffer.
 //!
 //! Every entry point answers with a refusal number first (0 is success); a
 //! refused call hands back the state it was given and leaves buffers alone.
@@ -22,7 +22,7 @@ pub mod step;
 
 pub use access::{channel_bytes, grant, read_channel};
 pub use console::console;
-pub use frame::sample;
+pub use frame::{sample, Rail};
 pub use planner::plan;
 pub use refusal::Refusal;
 pub use request::{request_read, request_write, Request, WHOLE_CHANNEL};

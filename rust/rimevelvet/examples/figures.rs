@@ -1,5 +1,5 @@
-//! Plans a gain for channel 3 and then the whole channel, sends the plans to a second converter, and reads the channel
-//! out of a frame.
+//! Plans a gain for channel 3 and then the whole channel, sends the plans to a second converter, reads the channel out
+//! of a frame, and shows which codes sit on a rail.
 
 use rimevelvet::{Planned, Request, State};
 
@@ -54,6 +54,22 @@ fn whole_channel(bench: State) -> State {
     planned.next
 }
 
+/// Codes at both ends of their range, one next to an end, and one at an end while its channel is powered down.
+fn rails(converting: State) {
+    let mut tx = [0; rimevelvet::LONGEST_PLAN];
+    let power_down = Request::one(1, 5, 1);
+    let bench = rimevelvet::plan(converting, 0, power_down, &mut tx, 0).next;
+    let codes = [8_388_607, -8_388_608, 0, 8_388_606, 8_388_607, 0, 0, 0];
+    let sampled = rimevelvet::sample(bench, &codes, 0x00, 0x00).next;
+    for channel in [1, 2, 4, 5] {
+        let reading = rimevelvet::read_channel(sampled, 0, channel, &sampled.latest);
+        println!(
+            "channel {channel}: code {}, rail {:?}",
+            reading.code, reading.rail
+        );
+    }
+}
+
 fn main() {
     // All channels are the administrator's (party 0) after power-up; channel 3 goes to party 1.
     let fresh = rimevelvet::power_up(0x3E).converter;
@@ -82,10 +98,13 @@ fn main() {
     let part = rimevelvet::channel_bytes(sampled, 1, 3, &sampled.latest);
     println!("frame starts {}", hex(&sampled.latest[..3]));
     println!(
-        "channel 3: code {}, P {}, N {}, bytes {}",
+        "channel 3: code {}, rail {:?}, P {}, N {}, bytes {}",
         reading.code,
+        reading.rail,
         reading.p,
         reading.n,
         hex(part)
     );
+
+    rails(converting);
 }

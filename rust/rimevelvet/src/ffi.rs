@@ -55,6 +55,8 @@ pub struct Reading {
     /// The channel's bits of P and N, 0 or 1.
     pub p: u8,
     pub n: u8,
+    /// 0: neither; 1: the lowest code; 2: the highest.
+    pub rail: u8,
     pub code: i32,
 }
 

@@ -1,17 +1,52 @@
 //! Safe wrappers over the proved library (include/rimevelvet.h).
 //!
 //! A state goes in by value and comes back by value; nothing is kept inside. Every answer begins with its refusal
-//! number, 0 for success; a refused call hands back the state and the buffers as they were given, and 0 for all else.
-//! Any bytes may be given as a [`State`]: those that stand for no state are refused by 13.
+//! number, 0 for success; a refused call hands back the state and the buffers as they were given, and 0 or
+//! [`Rail::Neither`] for all else. Any bytes may be given as a [`State`]: those that stand for no state are refused by
+//! 13.
 
 mod ffi;
 
 use std::ops::Range;
 
 pub use ffi::{
-    Moved, Parsed, Planned, PoweredUp, Reading, Request, State, Stepped, Written, LONGEST_PLAN,
+    Moved, Parsed, Planned, PoweredUp, Request, State, Stepped, Written, LONGEST_PLAN,
     LONGEST_REQUEST, VALUES, WHOLE_CHANNEL,
 };
+
+/// Which end of its range a code sits at, if at any. An electrode that drives the input past full scale holds the code
+/// there, and nothing else tells its flat trace from a calm one.
+#[derive(Clone, Copy, Debug, PartialEq, Eq)]
+pub enum Rail {
+    /// Any other code, among them the 0 of a channel that was powered down when its frame was built; and every refusal.
+    Neither,
+    /// -8,388,608.
+    Lowest,
+    /// 8,388,607.
+    Highest,
+}
+
+impl Rail {
+    fn from_number(number: u8) -> Rail {
+        match number {
+            0 => Rail::Neither,
+            1 => Rail::Lowest,
+            2 => Rail::Highest,
+            other => unreachable!("rail {other}: the library is proved to give 0, 1 or 2"),
+        }
+    }
+}
+
+/// A channel read out of a frame.
+#[derive(Clone, Copy, Debug, PartialEq, Eq)]
+pub struct Reading {
+    pub refusal: u8,
+    pub code: i32,
+    pub rail: Rail,
+    /// The channel's bits of P and N, 0 or 1.
+    pub p: u8,
+    pub n: u8,
+}
 
 impl Request {
     /// One field of a channel, or a shared field with channel 0.
@@ -66,10 +101,18 @@ pub fn grant(state: State, caller: u32, receiver: u32, channel: u32) -> Moved {
     unsafe { ffi::rimevelvet_grant(state, caller, receiver, channel) }
 }
 
-/// A channel's code and lead-off bits out of a frame, for its owner. Refused by 13, 3, 5, 6, 12.
+/// A channel's code with its rail, and its lead-off bits, out of a frame, for its owner. Refused by 13, 3, 5, 6, 12.
 pub fn read_channel(state: State, party: u32, channel: u32, frame: &[u8]) -> Reading {
     // SAFETY: the library reads `frame` alone, within its length.
-    unsafe { ffi::rimevelvet_read_channel(state, party, channel, frame.as_ptr(), frame.len()) }
+    let read =
+        unsafe { ffi::rimevelvet_read_channel(state, party, channel, frame.as_ptr(), frame.len()) };
+    Reading {
+        refusal: read.refusal,
+        code: read.code,
+        rail: Rail::from_number(read.rail),
+        p: read.p,
+        n: read.n,
+    }
 }
 
 /// Where a channel's three bytes lie in the frame, for its owner; an empty range where a reading is refused.

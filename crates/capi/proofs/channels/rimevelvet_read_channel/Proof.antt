@@ -17,8 +17,10 @@ rimevelvet-read-channel-spec =
     (λ c κs. search needs)
     (λ c κs. search needs)
     (λ c κs. search needs)
+    (λ c κs. search needs)
+    (λ c κs. search needs)
     (λ c.
-    let t = c .before .before .before in
+    let t = c .before .before .before .before in
     let same : toZ w32 (ofZ w32 (t .read-channel .result .code)) ≡ t .read-channel .result .code = toZ-ofZ (search needs) in
-    simp (same, c .before .before .flag-code .ensures, c .before .flag-code2 .ensures, ← t .before .state-of .ensures, ← t .read-channel .ensures, ← t .before .before .before .is-state .ensures, t .before .before .if1 .taken))
-    (λ c. simp (← c .before .is-state .ensures, c .if1 .left)))
+    simp (same, c .before .before .before .flag-code .ensures, c .before .before .flag-code2 .ensures, c .before .rail-number .ensures, ← t .before .state-of .ensures, ← t .read-channel .ensures, ← t .before .before .before .is-state .ensures, t .before .before .if1 .taken))
+    (λ c. simp (← c .before .before .is-state .ensures, c .before .if1 .left, c .rail-number2 .ensures)))
