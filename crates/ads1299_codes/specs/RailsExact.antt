@@ -1,4 +1,5 @@
--- The claim that the rails are the two ends of the range.
+-- The claim that the rails are the two ends of the range: document 01's codes, and document 000's words 800000h and 7FFFFFh, at which
+-- the converter's output clips.
 use Prim.Native.Nat.{ℕ, _<_}
 use mathlib.Core.Path.{_≡_}
 use mathlib.Core.Bool.{true, false}
