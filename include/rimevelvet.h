@@ -87,8 +87,8 @@ typedef struct {
 } rimevelvet_moved;
 
 /*
- * Which end of the range a code sits at, its rail. A trace that is stuck there looks calm; the code tells only that the input was
- * at that end or beyond.
+ * Which end of the range a code sits at, if at any: its rail. A trace that is held there is as flat as a calm one; the input was at
+ * that end or beyond.
  */
 enum {
     RIMEVELVET_NEITHER = 0,

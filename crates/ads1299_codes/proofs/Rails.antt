@@ -39,7 +39,7 @@ pub elsewhere : (z : ℤ) → (z ≡ lowest → ⊥) → (z ≡ highest → ⊥)
 unfolding standsFor railOf
 elsewhere z low high = simp (ne-eqZ z lowest low, ne-eqZ z highest high)
 
--- the rail of a code in 32-bit arithmetic, which compares words
+-- an integer that fits 32 bits is that of its word: 32-bit arithmetic compares words
 pub from-word : (z : ℤ) (w : ℕ) → SFits w32 z → ofZ w32 z ≡ w → z ≡ toZ w32 w
 from-word z w fits e = sym (toZ-ofZ fits) ∙ ap (toZ w32) e
 

@@ -11,7 +11,7 @@ use Rattle.ads1299_codes.specs.Rails.{railNumber, standsFor, railOf}
 use Rattle.ads1299_codes.specs.declared.Rail.{Rail}
 use Rattle.ads1299_codes.specs.declared.Rail.the-variants.{Lowest, Highest}
 
--- a rail is given at one code alone, with its three bytes: at an end of the range, since the integer beyond is no code
+-- a rail is that of one code alone and of that code's three bytes; the code is in range and the integer beyond it is not, so it is an end
 pub record OnlyAt (rail : Rail) (end beyond : ℤ) (high middle low : ℕ) : Type 0 where
   pub there : railOf end ≡ rail
   pub nowhere-else : (z : ℤ) → railOf z ≡ rail → z ≡ end

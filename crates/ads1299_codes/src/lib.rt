@@ -17,14 +17,14 @@ const WORD_COUNT: u32 = 0x1000000;
 // The first word whose top bit is 1.
 const SIGN_WORD: u32 = 0x800000;
 
-// Which end of the range a code sits at.
+// Which end of the range a code sits at, if at any.
 pub enum Rail {
     Neither,
     Lowest,
     Highest,
 }
 
-// A code and its rail, as three bytes are decoded.
+// What three bytes decode to: the code and its rail.
 pub struct Decoded {
     pub code: i32,
     pub rail: Rail,

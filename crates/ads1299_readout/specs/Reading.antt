@@ -1,4 +1,4 @@
--- What a frame says of a channel (document 01, "Samples and frames").
+-- What a frame says of a channel (document 01, "Samples and frames"; the rail by document 02, No. 3).
 use Prim.Native.Nat.{ℕ, _-_, _*_, _/_, _^_}
 use mathlib.Core.Path.{_≡_}
 use mathlib.Core.Bool.{Bool, _&&_}

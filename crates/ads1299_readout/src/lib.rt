@@ -1,4 +1,4 @@
-// What a frame says of a channel (document 01, "Samples and frames").
+// What a frame says of a channel (document 01, "Samples and frames"; the rail by document 02, No. 3).
 ghost use mathlib.Core.Path.{_≡_};
 ghost use Prim.Native.Nat.{_-_};
 ghost use lib.ListN.{getD};

@@ -324,7 +324,7 @@ const END_BYTES: [[u8; 3]; 6] = [
     [0x00, 0x00, 0x00],
 ];
 
-/// Puts codes at and near the ends into most channels of a frame.
+/// Puts codes of `END_BYTES` into most channels of a frame.
 pub(crate) fn plant_ends(random: &mut Random, frame: &mut [u8]) {
     for channel in frame.chunks_exact_mut(3).skip(1) {
         if random.chance(80) {
@@ -664,7 +664,8 @@ fn queue_power_down(random: &mut Random, c: &Converter, script: &mut Script) {
     });
 }
 
-/// Queues a whole command, a long read-out or a change of modes.
+/// Queues a whole command, a long read-out, a change of modes or a
+/// power-down around a sample.
 fn queue_script(random: &mut Random, c: &Converter, script: &mut Script) {
     if random.flag() {
         script.push_back(Call::Deselect);
@@ -726,6 +727,7 @@ fn queue_script(random: &mut Random, c: &Converter, script: &mut Script) {
                 ],
             );
         }
+        // A channel powered down before or after a sample, then read.
         9..=10 => queue_power_down(random, c, script),
         // A plan-like run in whatever mode.
         _ => {

@@ -17,6 +17,8 @@ pub struct Stats {
     pub answers: BTreeMap<(&'static str, Option<u8>), u64>,
     /// Accepted readings by their rail's number: neither, lowest, highest.
     pub rails: [u64; 3],
+    /// Accepted readings of a code next to an end of its range.
+    pub beside_ends: u64,
 }
 
 impl Stats {
@@ -27,6 +29,8 @@ impl Stats {
         *self.answers.entry((call.entry(), number)).or_insert(0) += 1;
         if matches!(call, Call::ReadChannel { .. }) && number == Some(0) {
             self.rails[outcome.numbers[RAIL] as usize] += 1;
+            let beside = matches!(outcome.numbers[0], -8_388_607 | 8_388_606);
+            self.beside_ends += u64::from(beside);
         }
     }
 }
@@ -48,7 +52,8 @@ impl fmt::Display for Stats {
         let [neither, lowest, highest] = self.rails;
         write!(
             f,
-            "\n  rails read: neither x{neither} lowest x{lowest} highest x{highest}"
+            "\n  rails read: neither x{neither} (beside an end x{}) lowest x{lowest} highest x{highest}",
+            self.beside_ends
         )
     }
 }

@@ -40,10 +40,10 @@ fn model_agrees_with_itself_and_every_answer_occurs() {
     }
     if calls >= 100_000 {
         assert_eq!(seen, possible());
-        let read: u64 = stats.rails.iter().sum();
-        assert_eq!(read, stats.answers[&("read_channel", Some(0))]);
+        let read = stats.answers[&("read_channel", Some(0))];
         let [_, lowest, highest] = stats.rails;
-        assert!(lowest.min(highest) >= read / 20, "{:?}", stats.rails);
+        let least = lowest.min(highest).min(stats.beside_ends);
+        assert!(least >= read / 20, "{stats}");
     }
 }
 

@@ -14,8 +14,8 @@ pub use ffi::{
     LONGEST_REQUEST, VALUES, WHOLE_CHANNEL,
 };
 
-/// Which end of its range a code sits at, if at any. An electrode that drives the input past full scale holds the code
-/// there, and nothing else tells its flat trace from a calm one.
+/// Which end of its range a code sits at, if at any. A trace that is held there is as flat as a calm one; the input was
+/// at that end or beyond.
 #[derive(Clone, Copy, Debug, PartialEq, Eq)]
 pub enum Rail {
     /// Any other code, among them the 0 of a channel that was powered down when its frame was built; and every refusal.
