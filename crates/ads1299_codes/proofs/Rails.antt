@@ -1,10 +1,10 @@
 -- Laws of rails: a rail is given at its end of the range and nowhere else.
-use Prim.Native.Nat.{ℕ, _<_}
+use Prim.Native.Nat.{ℕ}
 use mathlib.Core.Path.{_≡_, refl, sym, _∙_, ap}
-use mathlib.Core.Bool.{Bool, true, false, not, _&&_, false≢true}
-use mathlib.Core.List.{List, [], _∷_}
+use mathlib.Core.Bool.{true, false, not, false≢true}
+use mathlib.Core.List.{[], _∷_}
 use native.Mathlib.Omega.{arith}
-use borrow.Author.Tests.{eqb-true, eqb-false, not-true}
+use borrow.Author.Tests.{eqb-true, not-true}
 use lib.IntN.{ℤ, pos, negsuc, sucℤ, predℤ}
 use mir.Syntax.{w32}
 use mir.Val.{toZ, ofZ, SFits}
@@ -24,7 +24,7 @@ eqZ-true (pos m) (negsuc n) e = absurd (false≢true e)
 eqZ-true (negsuc m) (pos n) e = absurd (false≢true e)
 eqZ-true (negsuc m) (negsuc n) e = ap negsuc (eqb-true m n e)
 
-pub ne-eqZ : (a b : ℤ) → (a ≡ b → ⊥) → eqZ a b ≡ false
+ne-eqZ : (a b : ℤ) → (a ≡ b → ⊥) → eqZ a b ≡ false
 ne-eqZ a b ne = split (eqZ a b) (λ e. absurd (ne (eqZ-true a b e))) (λ e. e)
 
 pub lowest-there : railOf lowest ≡ Lowest
