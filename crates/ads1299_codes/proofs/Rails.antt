@@ -1,9 +1,8 @@
 -- Laws of rails: a rail is given at its end of the range and nowhere else.
-use Prim.Native.Nat.{ℕ}
+use Prim.Native.Nat.{ℕ, zero, suc}
 use mathlib.Core.Path.{_≡_, refl, sym, _∙_, ap}
 use mathlib.Core.Bool.{true, false, not, false≢true}
 use mathlib.Core.List.{[], _∷_}
-use native.Mathlib.Omega.{arith}
 use borrow.Author.Tests.{eqb-true, not-true}
 use lib.IntN.{ℤ, pos, negsuc, sucℤ, predℤ}
 use mir.Syntax.{w32}
@@ -43,9 +42,9 @@ elsewhere z low high = simp (ne-eqZ z lowest low, ne-eqZ z highest high)
 pub from-word : (z : ℤ) (w : ℕ) → SFits w32 z → ofZ w32 z ≡ w → z ≡ toZ w32 w
 from-word z w fits e = sym (toZ-ofZ fits) ∙ ap (toZ w32) e
 
-stands : (z : ℤ) → standsFor (railOf z) z ≡ true
+stands-for-it : (z : ℤ) → standsFor (railOf z) z ≡ true
 unfolding standsFor railOf
-stands z =
+stands-for-it z =
     split (eqZ z lowest) (λ l. simp l)
     (λ l. split (eqZ z highest) (λ h. simp (l, h)) (λ h. simp (l, h)))
 
@@ -55,16 +54,19 @@ stands-alone Neither z e = let b = and-both (not (eqZ z lowest)) (not (eqZ z hig
 stands-alone Lowest z e = simp e
 stands-alone Highest z e = ap railOf (eqZ-true z highest e) ∙ highest-there
 
+-- the way back from a rail's number
+abbrev railNamed : ℕ → Rail
+railNamed zero = Neither
+railNamed (suc zero) = Lowest
+railNamed (suc (suc n)) = Highest
+
+number-named : (rail : Rail) → railNamed (railNumber rail) ≡ rail
+number-named Neither = refl
+number-named Lowest = refl
+number-named Highest = refl
+
 number-names : (rail other : Rail) → railNumber rail ≡ railNumber other → rail ≡ other
-number-names Neither Neither e = refl
-number-names Neither Lowest e = absurd (omega arith)
-number-names Neither Highest e = absurd (omega arith)
-number-names Lowest Neither e = absurd (omega arith)
-number-names Lowest Lowest e = refl
-number-names Lowest Highest e = absurd (omega arith)
-number-names Highest Neither e = absurd (omega arith)
-number-names Highest Lowest e = absurd (omega arith)
-number-names Highest Highest e = refl
+number-names rail other e = sym (number-named rail) ∙ ap railNamed e ∙ number-named other
 
 -- a rail that stands for its end of the range alone
 only-at : (rail : Rail) (end beyond : ℤ) (high middle low : ℕ)
@@ -72,13 +74,13 @@ only-at : (rail : Rail) (end beyond : ℤ) (high middle low : ℕ)
     → inRange end ≡ true → inRange beyond ≡ false
     → codeOf (word high middle low) ≡ end → wordBytes (wordOf end) ≡ high ∷ middle ∷ low ∷ []
     → OnlyAt rail end beyond high middle low
-only-at rail end beyond high middle low there alone inside outside code bytes =
-    let nowhere : (z : ℤ) → railOf z ≡ rail → z ≡ end = λ z e. alone z (rw e at (stands z)) in
+only-at rail end beyond high middle low there alone in-range none-beyond code bytes =
+    let nowhere : (z : ℤ) → railOf z ≡ rail → z ≡ end = λ z e. alone z (rw e at (stands-for-it z)) in
     record {
       there = there;
       nowhere-else = nowhere;
-      inside = inside;
-      outside = outside;
+      in-range = in-range;
+      none-beyond = none-beyond;
       bytes-there = ap railOf code ∙ there;
       no-other-bytes = λ a b c ha hb hc e. sym (codec .bytes-code a b c ha hb hc) ∙ ap (λ (z : ℤ). wordBytes (wordOf z)) (nowhere _ e) ∙ bytes;
     }
@@ -88,7 +90,7 @@ unfolding inRange wordOf codeOf word wordBytes standsFor
 rails-exact = record {
   at-lowest = only-at Lowest lowest (predℤ lowest) 0x80 0x00 0x00 lowest-there (λ z. eqZ-true z lowest) refl refl refl refl;
   at-highest = only-at Highest highest (sucℤ highest) 0x7F 0xFF 0xFF highest-there (λ z. eqZ-true z highest) refl refl refl refl;
-  stands = stands;
+  stands-for-it = stands-for-it;
   stands-alone = stands-alone;
   number-names = number-names;
 }

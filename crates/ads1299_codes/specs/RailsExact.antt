@@ -15,8 +15,8 @@ use Rattle.ads1299_codes.specs.declared.Rail.the-variants.{Lowest, Highe
 pub record OnlyAt (rail : Rail) (end beyond : ℤ) (high middle low : ℕ) : Type 0 where
   pub there : railOf end ≡ rail
   pub nowhere-else : (z : ℤ) → railOf z ≡ rail → z ≡ end
-  pub inside : inRange end ≡ true
-  pub outside : inRange beyond ≡ false
+  pub in-range : inRange end ≡ true
+  pub none-beyond : inRange beyond ≡ false
   pub bytes-there : railOf (codeOf (word high middle low)) ≡ rail
   pub no-other-bytes : (a b c : ℕ) → a < 256 → b < 256 → c < 256 → railOf (codeOf (word a b c)) ≡ rail
       → a ∷ b ∷ c ∷ [] ≡ high ∷ middle ∷ low ∷ []
@@ -25,6 +25,6 @@ pub record OnlyAt (rail : Rail) (end beyond : ℤ) (high middle low : ℕ) : Typ
 pub record RailsExact : Type 0 where
   pub at-lowest : OnlyAt Lowest lowest (predℤ lowest) 0x80 0x00 0x00
   pub at-highest : OnlyAt Highest highest (sucℤ highest) 0x7F 0xFF 0xFF
-  pub stands : (z : ℤ) → standsFor (railOf z) z ≡ true
+  pub stands-for-it : (z : ℤ) → standsFor (railOf z) z ≡ true
   pub stands-alone : (rail : Rail) (z : ℤ) → standsFor rail z ≡ true → railOf z ≡ rail
   pub number-names : (rail other : Rail) → railNumber rail ≡ railNumber other → rail ≡ other

@@ -40,11 +40,16 @@ status-other : (registers : List ℕ) (p n i : ℕ) → (i ≡ LOFF_STATP → �
 unfolding withStatus
 status-other registers p n i a b = getD-set-other (set registers LOFF_STATP p) LOFF_STATN i n 0 b ∙ getD-set-other registers LOFF_STATP i p 0 a
 
-status-shown : (registers : List ℕ) (codes : List ℤ) (p n channel : ℕ) → isChannel channel ≡ true → shown (withStatus registers p n) codes channel ≡ shown registers codes channel
-unfolding shown poweredDown
-status-shown registers codes p n channel c =
+-- they power no channel up or down
+status-power : (registers : List ℕ) (p n channel : ℕ) → isChannel channel ≡ true → poweredDown (withStatus registers p n) channel ≡ poweredDown registers channel
+unfolding poweredDown
+status-power registers p n channel c =
     let b = bounds channel c in
     rw (status-other registers p n (CH1SET + (channel - 1)) (λ z. omega arith) (λ z. omega arith))
+
+status-shown : (registers : List ℕ) (codes : List ℤ) (p n channel : ℕ) → isChannel channel ≡ true → shown (withStatus registers p n) codes channel ≡ shown registers codes channel
+unfolding shown
+status-shown registers codes p n channel c = rw (status-power registers p n channel c)
 
 -- the owner of a channel reads what a frame says of it
 module _ (s : Converter) (party channel : ℕ) (v : valid s ≡ true) (c : isChannel channel ≡ true) (o : ownerOf (s .owners) channel ≡ party) where
@@ -85,14 +90,18 @@ module _ (s : Converter) (codes : List ℤ) (p n : ℕ) where
       let same = status-shown (s .registers) codes p n channel c in
       record { read = read .read ∙ rw same; part = read .part ∙ rw same }
 
-  -- P and N do not power a channel up
   taken-down : (channel : ℕ) → isChannel channel ≡ true → poweredDown (s .registers) channel ≡ true → ShowsZero (taken s codes p n .latest) channel
-  unfolding poweredDown
   taken-down channel c down =
       let b = bounds channel c in
-      let registers = withStatus (s .registers) p n in
-      let same = status-other (s .registers) p n (CH1SET + (channel - 1)) (λ z. omega arith) (λ z. omega arith) in
-      rw taken-latest (powered-down-shows-zero registers codes p n channel (b .low) (b .high) (rw same down))
+      rw taken-latest (powered-down-shows-zero (withStatus (s .registers) p n) codes p n channel (b .low) (b .high) (status-power (s .registers) p n channel c ∙ down))
+
+  -- a sample that is accepted is taken
+  is-taken : sampled s codes p n .refusal ≡ none → (sampleRefusal s codes ≡ none) × (sampled s codes p n .next ≡ taken s codes p n)
+  unfolding sampled
+  is-taken =
+      either (λ (m : Moved). m .refusal ≡ none → (sampleRefusal s codes ≡ none) × (m .next ≡ taken s codes p n)) (accepted (sampleRefusal s codes))
+      (λ a z. (eqb-true _ _ a, refl))
+      (λ a z. absurd (eqb-false _ _ a z))
 
 reads-zero : (t : Converter) (party channel : ℕ) (frame : List ℕ) → ShowsZero frame channel → ReadsZero (channelReading t party channel frame)
 unfolding channelReading
@@ -100,17 +109,12 @@ reads-zero t party channel frame z =
     either ReadsZero (accepted (readingRefusal t party channel frame)) (λ e. record { code = z .code; rail = z .rail }) (λ e. record { code = refl; rail = refl })
 
 pub powered-down-reads-zero : PoweredDownReadsZero
-unfolding sampled
 powered-down-reads-zero s codes p n channel e c down t party =
-    let P : Moved → Type 0 = λ m. m .refusal ≡ none → ReadsZero (channelReading t party channel (m .next .latest)) in
-    either P (accepted (sampleRefusal s codes))
-    (λ a z. reads-zero t party channel (taken s codes p n .latest) (taken-down s codes p n channel c down))
-    (λ a z. absurd (eqb-false _ _ a z)) e
+    rw (is-taken s codes p n e .1) (reads-zero t party channel (taken s codes p n .latest) (taken-down s codes p n channel c down))
 
 pub samples-read-back : SamplesReadBack
-unfolding sampleRefusal sampled
+unfolding sampleRefusal
 samples-read-back s codes p n channel r ps ns e c =
-    let P : Moved → Type 0 = λ m. m .refusal ≡ none → ReadsSample (s .registers) codes p n (ownerOf (s .owners) channel) channel (m .next) in
-    either P (accepted (sampleRefusal s codes))
-    (λ a z. let off = exact (sampleRefusals s codes) refl .refuses (eqb-true _ _ a) in taken-reads s codes p n channel r ps ns (not-false _ (off .0)) (not-false _ (off .1 .1 .0)) c)
-    (λ a z. absurd (eqb-false _ _ a z)) e
+    let taken = is-taken s codes p n e in
+    let off = exact (sampleRefusals s codes) refl .refuses (taken .0) in
+    rw (taken .1) (taken-reads s codes p n channel r ps ns (not-false _ (off .0)) (not-false _ (off .1 .1 .0)) c)
