@@ -1,5 +1,6 @@
 /*
- * Rimevelvet: one eight-channel ADS1299 of a shared test bench, followed byte by byte, with its owners and its fields.
+ * Rimevelvet: a shared test bench of four eight-channel ADS1299s, followed byte by byte, with its owners and its fields; and one
+ * such converter by itself. The calls that start with rimevelvet_bench_ take a bench, the others one converter.
  *
  * Link libcapi.a (x86-64 Linux), which `rt staticlib capi` writes to target/staticlib/. The library keeps nothing and allocates
  * nothing: a state goes in by value, and the next one comes back. Calls on different states may run at the same time.
@@ -30,7 +31,7 @@ enum {
     RIMEVELVET_MALFORMED = 2,      /* a second group is 0 or has its top bit set */
     RIMEVELVET_UNKNOWN_PARTY = 3,  /* a party above 8 */
     RIMEVELVET_UNKNOWN_FIELD = 4,  /* field 0, or above 26 and not 30 */
-    RIMEVELVET_WRONG_CHANNEL = 5,  /* not 1 to 8; with a shared field, not 0 */
+    RIMEVELVET_WRONG_CHANNEL = 5,  /* not 1 to 8; with a shared field, not 0; for a bench see RIMEVELVET_CONVERTERS */
     RIMEVELVET_NOT_OWNER = 6,      /* the party is not the owner; for a shared field or a grant, not party 0 */
     RIMEVELVET_BAD_VALUE = 7,      /* a value too wide for its field, or refused there; above 16,383 in a request that is written */
     RIMEVELVET_NOT_WAITING = 8,    /* the converter is half through a command */
@@ -130,7 +131,7 @@ typedef struct {
  */
 typedef struct {
     uint32_t field;
-    uint32_t channel; /* 1 to 8; 0 with a shared field */
+    uint32_t channel; /* 1 to 8; 0 with a shared field; a bench's by its own numbers */
     uint32_t values[RIMEVELVET_VALUES];
 } rimevelvet_request;
 
@@ -239,6 +240,111 @@ rimevelvet_written rimevelvet_request_write(rimevelvet_request request, uint8_t 
  */
 rimevelvet_planned rimevelvet_plan(rimevelvet_converter state, uint32_t party, rimevelvet_request request, uint8_t *tx,
                                    size_t tx_length, size_t at);
+
+/*
+ * A bench: four converters on four select lines, with numbers from 0 to 3. Converter k has channels 8 * k + 1 to 8 * k + 8, so that
+ * channel 9 is the first of converter 1, and 32 is the last of all. A shared field goes with the number of a converter as a whole: 0
+ * for converter 0, then 33, 34 and 35. Refusal 5 goes by these ranges, and covers a converter's number above 3 and, where a frame is read, one that is not the
+ * channel's. Refusal 13 looks at all four converters, 8 and 9 at the one that the request names.
+ *
+ * There is no selected converter to be kept: each byte, select rise, sample and frame comes with its converter's number.
+ */
+#define RIMEVELVET_CONVERTERS 4
+
+typedef struct {
+    rimevelvet_converter converters[RIMEVELVET_CONVERTERS]; /* each has its own eight channels' owners */
+} rimevelvet_bench;
+
+/* What power-up of a bench answers. */
+typedef struct {
+    uint8_t refusal;
+    rimevelvet_bench bench;
+} rimevelvet_bench_powered_up;
+
+/* What a byte for one of the converters is answered: the byte that went out of it, and the bench after it. */
+typedef struct {
+    uint8_t refusal;
+    uint8_t out;
+    rimevelvet_bench next;
+} rimevelvet_bench_stepped;
+
+/* What a select rise, a sample and a grant answer. */
+typedef struct {
+    uint8_t refusal;
+    rimevelvet_bench next;
+} rimevelvet_bench_moved;
+
+/*
+ * The number of the converter that the plan's bytes are for, the plan's length, and the bench after the plan: its bytes are not to be
+ * fed to that bench again.
+ */
+typedef struct {
+    uint8_t refusal;
+    uint32_t converter;
+    size_t length;
+    rimevelvet_bench next;
+} rimevelvet_bench_planned;
+
+RIMEVELVET_ASSERT(sizeof(rimevelvet_bench) == 380, "four states, with no gap");
+RIMEVELVET_ASSERT(sizeof(rimevelvet_bench_powered_up) == 381, "a byte and a bench");
+RIMEVELVET_ASSERT(sizeof(rimevelvet_bench_stepped) == 382, "two bytes and a bench");
+RIMEVELVET_ASSERT(sizeof(rimevelvet_bench_moved) == 381, "a byte and a bench");
+RIMEVELVET_ASSERT(sizeof(rimevelvet_bench_planned) == 400, "a byte, a number, a size and a bench");
+RIMEVELVET_ASSERT(offsetof(rimevelvet_bench_planned, converter) == 4, "the converter's number after the refusal");
+RIMEVELVET_ASSERT(offsetof(rimevelvet_bench_planned, next) == 16, "the bench after the length");
+
+/*
+ * A fresh bench with these IDs, each converter as rimevelvet_power_up gives it. `ids` points to RIMEVELVET_CONVERTERS bytes.
+ * Refusal: 13 (an ID's low five bits are not 1Eh); then all four come back in the power-up state with ID 00.
+ */
+rimevelvet_bench_powered_up rimevelvet_bench_power_up(const uint8_t *ids);
+
+/*
+ * Takes a byte in for converter `number` and gives one out. No other converter changes.
+ * Refusals: 13, 5; then `out` is 0 and the same bench comes back.
+ */
+rimevelvet_bench_stepped rimevelvet_bench_step(rimevelvet_bench bench, uint32_t number, uint8_t byte);
+
+/*
+ * The select line of converter `number` rises. Going from one converter to another is no such rise.
+ * Refusals: 13, 5; then the same bench comes back.
+ */
+rimevelvet_bench_moved rimevelvet_bench_deselect(rimevelvet_bench bench, uint32_t number);
+
+/*
+ * Converter `number` takes a sample, as rimevelvet_sample says: the codes of its own eight channels.
+ * Refusals: 13, 5, 10, 11; then the same bench comes back.
+ */
+rimevelvet_bench_moved rimevelvet_bench_sample(rimevelvet_bench bench, uint32_t number, const int32_t *codes, size_t codes_length,
+                                               uint8_t p, uint8_t n);
+
+/*
+ * Gives a channel, 1 to 32, to the receiver. Only party 0 may.
+ * Refusals: 13, 3 (caller or receiver), 5, 6; then the same bench comes back.
+ */
+rimevelvet_bench_moved rimevelvet_bench_grant(rimevelvet_bench bench, uint32_t caller, uint32_t receiver, uint32_t channel);
+
+/*
+ * Reads a channel, 1 to 32, from a frame of converter `number`, for its owner alone.
+ * Refusals: 13, 3, 5 (also where `number` is not the channel's converter), 6, 12; then code, rail and bits are 0.
+ */
+rimevelvet_reading rimevelvet_bench_read_channel(rimevelvet_bench bench, uint32_t number, uint32_t party, uint32_t channel,
+                                                 const uint8_t *frame, size_t frame_length);
+
+/*
+ * Where the channel's three bytes lie in the caller's own frame of converter `number`.
+ * Refusals: those of rimevelvet_bench_read_channel; then start and length are 0.
+ */
+rimevelvet_part rimevelvet_bench_channel_bytes(rimevelvet_bench bench, uint32_t number, uint32_t party, uint32_t channel,
+                                               const uint8_t *frame, size_t frame_length);
+
+/*
+ * Plans a party's request for a bench, its channel by the bench's numbers, as rimevelvet_plan does for one converter. Every byte of
+ * the plan is for the converter whose number the answer carries.
+ * Refusals: 13, 3, 4, 5, 6, 7, 8, 9; then converter and length are 0, and the bench and the buffer are as they were.
+ */
+rimevelvet_bench_planned rimevelvet_bench_plan(rimevelvet_bench bench, uint32_t party, rimevelvet_request request, uint8_t *tx,
+                                               size_t tx_length, size_t at);
 
 /* The most bytes of the program's input; more is refused whole. */
 #define RIMEVELVET_INPUT_LIMIT 4096

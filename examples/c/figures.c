@@ -1,6 +1,6 @@
 /*
- * The figures of document 01, those of requests for a whole channel, of fresh channel registers and of rails, by way of C. From the
- * repository's root:
+ * The figures of document 01, those of requests for a whole channel, of fresh channel registers, of rails and of a bench of four
+ * converters, by way of C. From the repository's root:
  *
  *     rt staticlib capi
  *     gcc -std=c11 -Wall -Wextra -Iinclude examples/c/figures.c target/staticlib/libcapi.a -o target/figures
@@ -205,6 +205,82 @@ static void bad_states(rimevelvet_converter fresh)
     printf("ID 3F: refused %u\n", (unsigned)rimevelvet_power_up(0x3F).refusal);
 }
 
+/* Sends bytes to one of the converters, and gives the bench after them. */
+static rimevelvet_bench bench_send(rimevelvet_bench bench, uint32_t number, const uint8_t *bytes, size_t length)
+{
+    for (size_t i = 0; i < length; i++)
+        bench = rimevelvet_bench_step(bench, number, bytes[i]).next;
+    return bench;
+}
+
+static int same_bench(rimevelvet_bench one, rimevelvet_bench other)
+{
+    return memcmp(&one, &other, sizeof one) == 0;
+}
+
+static void print_ids(const char *name, rimevelvet_bench_powered_up powered)
+{
+    printf("%s: refused %u, IDs", name, (unsigned)powered.refusal);
+    for (size_t i = 0; i < RIMEVELVET_CONVERTERS; i++)
+        printf(" %02X", (unsigned)powered.bench.converters[i].registers[0]);
+    printf("\n");
+}
+
+/* Plans a request for a bench; its bytes and then a rise go to the converter that the answer names. */
+static rimevelvet_bench print_bench_plan(const char *name, rimevelvet_bench bench, uint32_t party, rimevelvet_request request)
+{
+    uint8_t tx[RIMEVELVET_LONGEST_PLAN] = {0};
+    rimevelvet_bench_planned planned = rimevelvet_bench_plan(bench, party, request, tx, sizeof tx, 0);
+    printf("%s: refused %u, converter %u\n", name, (unsigned)planned.refusal, (unsigned)planned.converter);
+    if (planned.refusal != RIMEVELVET_NONE)
+        return planned.next;
+    print_bytes("its plan", tx, planned.length);
+    rimevelvet_bench sent = bench_send(bench, planned.converter, tx, planned.length);
+    rimevelvet_bench risen = rimevelvet_bench_deselect(sent, planned.converter).next;
+    printf("its bytes lead there: %d, the rise after them changes nothing: %d\n", same_bench(sent, planned.next),
+           same_bench(risen, sent));
+    return planned.next;
+}
+
+static void print_bench_reading(rimevelvet_bench bench, uint32_t number, uint32_t party, uint32_t channel, const uint8_t *frame)
+{
+    rimevelvet_reading reading = rimevelvet_bench_read_channel(bench, number, party, channel, frame, 27);
+    rimevelvet_part part = rimevelvet_bench_channel_bytes(bench, number, party, channel, frame, 27);
+    printf("channel %u by number %u: refused %u, code %ld, bits %u %u\n", (unsigned)channel, (unsigned)number,
+           (unsigned)reading.refusal, (long)reading.code, (unsigned)reading.p, (unsigned)reading.n);
+    print_bytes("its bytes", frame + part.start, part.length);
+}
+
+/* Channel 9 is the first of converter 1; 33 and 34 name the shared fields of converters 1 and 2. */
+static void four_converters(void)
+{
+    const int32_t codes[8] = {-9, 10, 11, 12, 13, 14, 15, 16};
+    print_ids("a bench with a bad ID", rimevelvet_bench_power_up((const uint8_t[]){0x3E, 0x3E, 0x3F, 0x3E}));
+    rimevelvet_bench_powered_up powered = rimevelvet_bench_power_up((const uint8_t[]){0x3E, 0x1E, 0x5E, 0x9E});
+    print_ids("a bench", powered);
+    rimevelvet_bench_moved granted = rimevelvet_bench_grant(powered.bench, 0, 1, 9);
+    printf("channel 9 granted: refused %u\n", (unsigned)granted.refusal);
+    printf("channel 33 granted: refused %u\n", (unsigned)rimevelvet_bench_grant(powered.bench, 0, 1, 33).refusal);
+    rimevelvet_bench bench = print_bench_plan("gain 4 for channel 9", granted.next, 1, one(2, 9, 4));
+    print_bench_plan("the same from a stranger", granted.next, 2, one(2, 9, 4));
+    rimevelvet_bench_moved stopped = rimevelvet_bench_sample(bench, 0, codes, 8, 0x01, 0x00);
+    printf("a sample of converter 0, stopped: refused %u\n", (unsigned)stopped.refusal);
+    rimevelvet_bench_moved no_converter = rimevelvet_bench_sample(bench, 4, codes, 8, 0x01, 0x00);
+    printf("a sample of converter 4: refused %u\n", (unsigned)no_converter.refusal);
+    bench = bench_send(bench, 1, (const uint8_t[]){0x08}, 1);
+    bench = rimevelvet_bench_sample(bench, 1, codes, 8, 0x01, 0x00).next;
+    print_bench_reading(bench, 1, 1, 9, bench.converters[1].latest);
+    print_bench_reading(bench, 0, 1, 9, bench.converters[1].latest);
+    print_bench_plan("data rate 5 by 34", bench, 0, one(12, 34, 5));
+    print_bench_plan("data rate 5 by 9", bench, 0, one(12, 9, 5));
+    /* Half a command to converter 2: its own requests wait, those for the others do not. */
+    rimevelvet_bench half = bench_send(bench, 2, (const uint8_t[]){0x11, 0x41}, 2);
+    print_bench_plan("the same by 34 with converter 2 in a command", half, 0, one(12, 34, 5));
+    print_bench_plan("by 35", half, 0, one(12, 35, 5));
+    half.converters[3].owners[0] = 9;
+    print_bench_plan("by 0 with a bad owner in converter 3", half, 0, one(12, 0, 5));
+}
+
 int main(void)
 {
     rimevelvet_converter fresh = rimevelvet_power_up(0x3E).converter;
@@ -216,5 +292,6 @@ int main(void)
     rails(fresh);
     requests();
     bad_states(fresh);
+    four_converters();
     return 0;
 }

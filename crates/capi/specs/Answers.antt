@@ -52,12 +52,17 @@ rejected f = record { refusal = invalidState; next = f }
 unfoldable pub movedFrom : FlatConverter → Moved → FlatMoved
 movedFrom f a = cond (isState f) (flatMoved a) (rejected f)
 
--- gives the answer to a reading, with its rail by number
+-- gives a reading with its rail by number
+unfoldable pub flatReading : Reading → FlatReading
+flatReading a = record { refusal = a .refusal; p = flagCode (a .p); n = flagCode (a .n); rail = railNumber (a .rail); code = a .code }
+
+-- gives a refused reading: 0 but for its number
+unfoldable pub refusedReading : ℕ → FlatReading
+refusedReading number = record { refusal = number; p = 0; n = 0; rail = railNumber Neither; code = pos 0 }
+
+-- gives the answer to a reading
 unfoldable pub readingFrom : FlatConverter → Reading → FlatReading
-readingFrom f a =
-    cond (isState f)
-    (record { refusal = a .refusal; p = flagCode (a .p); n = flagCode (a .n); rail = railNumber (a .rail); code = a .code })
-    (record { refusal = invalidState; p = 0; n = 0; rail = railNumber Neither; code = pos 0 })
+readingFrom f a = cond (isState f) (flatReading a) (refusedReading invalidState)
 
 -- gives the part that the second reading call hands back, as its start and length in the caller's frame; refused where a reading is
 unfoldable pub channelPart : Converter → ℕ → ℕ → List ℕ → FlatPart

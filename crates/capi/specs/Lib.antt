@@ -1,2 +1,4 @@
 pub mod Answers
+pub mod BenchAnswers
 pub mod Claims
+pub mod BenchClaims

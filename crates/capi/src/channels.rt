@@ -3,13 +3,12 @@ ghost use mathlib.Core.Path.{_≡_};
 ghost use Rattle.grants.specs.Grant.{granted};
 ghost use Rattle.readings.specs.Reading.{channelReading};
 ghost use Rattle.flat.specs.States.{stateOf};
-ghost use Rattle.capi.specs.Answers.{movedFrom, readingFrom, channelPart, noPart, partFrom};
+ghost use Rattle.capi.specs.Answers.{movedFrom, readingFrom, channelPart, partFrom};
 use super::answers;
 use crate::FlatMoved;
 use crate::FlatPart;
 use crate::FlatReading;
 use ads1299::Converter;
-use ads1299_codes::Rail;
 use ads1299_codes::WORD_LENGTH;
 use flat::FlatConverter;
 
@@ -45,32 +44,9 @@ pub extern "C" fn rimevelvet_read_channel(
 {
     if flat::is_state(state) {
         let reading = readings::read_channel(flat::state_of(state), party, channel, frame);
-        let rail = reading.rail;
-        FlatReading {
-            refusal: reading.refusal,
-            p: flat::flag_code(reading.p),
-            n: flat::flag_code(reading.n),
-            rail: ads1299_codes::rail_number(rail),
-            code: reading.code,
-        }
+        answers::flatten_reading(reading)
     } else {
-        FlatReading {
-            refusal: refusal::INVALID_STATE,
-            p: 0,
-            n: 0,
-            rail: ads1299_codes::rail_number(Rail::Neither),
-            code: 0,
-        }
-    }
-}
-
-fn refuse_part(number: u8) -> FlatPart
-    ensures { λ r. ⌜ r ≡ noPart number ⌝ }
-{
-    FlatPart {
-        refusal: number,
-        start: 0,
-        length: 0,
+        answers::refuse_reading()
     }
 }
 
@@ -86,7 +62,7 @@ fn locate_part(converter: Converter, party: u32, channel: u32, frame: &[u8]) -> 
             length: readings::channel_bytes(converter, party, channel, frame).len(),
         }
     } else {
-        refuse_part(reading.refusal)
+        answers::refuse_part(reading.refusal)
     }
 }
 
@@ -102,6 +78,6 @@ pub extern "C" fn rimevelvet_channel_bytes(
     if flat::is_state(state) {
         locate_part(flat::state_of(state), party, channel, frame)
     } else {
-        refuse_part(refusal::INVALID_STATE)
+        answers::refuse_part(refusal::INVALID_STATE)
     }
 }

@@ -1,12 +1,16 @@
 // The library for other languages: every entry point as a C function, over a state and answers that are plain numbers. No state is
 // kept here.
 mod answers;
+mod bench_channels;
+mod bench_lines;
+mod bench_requests;
 mod channels;
 mod converter;
 mod program;
 mod requests;
 
 use flat::FlatConverter;
+use flat_bench::FlatBench;
 use request::Request;
 
 #[repr(C)]
@@ -64,4 +68,31 @@ pub struct FlatPlanned {
     pub refusal: u8,
     pub length: usize,
     pub next: FlatConverter,
+}
+
+#[repr(C)]
+pub struct FlatBenchPoweredUp {
+    pub refusal: u8,
+    pub bench: FlatBench,
+}
+
+#[repr(C)]
+pub struct FlatBenchStepped {
+    pub refusal: u8,
+    pub out: u8,
+    pub next: FlatBench,
+}
+
+#[repr(C)]
+pub struct FlatBenchMoved {
+    pub refusal: u8,
+    pub next: FlatBench,
+}
+
+#[repr(C)]
+pub struct FlatBenchPlanned {
+    pub refusal: u8,
+    pub converter: u32,
+    pub length: usize,
+    pub next: FlatBench,
 }

@@ -38,7 +38,6 @@ pub extern "C" fn rimevelvet_request_write(request: Request, buffer: &mut [u8]) 
     }
 }
 
-// Plans a request by way of the live form, on a copy of the state.
 #[no_mangle]
 pub extern "C" fn rimevelvet_plan(
     state: FlatConverter,
@@ -52,7 +51,7 @@ pub extern "C" fn rimevelvet_plan(
 {
     if flat::is_state(state) {
         let before = flat::state_of(state);
-        let planned = live::plan_borrowed(before, party, request, tx, at);
+        let planned = planner::plan(before, party, request, tx, at);
         FlatPlanned {
             refusal: planned.refusal,
             length: planned.length,

@@ -33,7 +33,6 @@ use Rattle.planner.specs.Planned.{plan, planned}
 use Rattle.planner.specs.Planned as planning
 use Rattle.planner.specs.Buffer.{txAfter}
 use Rattle.planner.proofs.Accepted.{number-is}
-use Rattle.live.specs.Answers.{answerOf}
 use Rattle.console.specs.Line.{line}
 use Rattle.console.specs.Turn.{fresh, isRead, submitted, printed, nextState, consumed}
 use Rattle.console.specs.Transcript.{inputLimit, session, transcriptOf}
@@ -42,7 +41,7 @@ use Rattle.demand1.specs.Demand1.{Judges, inputRefusals, Demand1}
 
 -- an answer that is chosen by the first test that applies
 module _ {A : Type 0} (tests : List (Bool × ℕ)) (numberOf : A → ℕ) (good : A) (refusedBy : ℕ → A) where
-  chosen : Exact tests → numberOf good ≡ none → ((n : ℕ) → numberOf (refusedBy n) ≡ n) → Judges tests numberOf (cond (accepted (firstOf tests)) good (refusedBy (firstOf tests))) refusedBy
+  pub chosen : Exact tests → numberOf good ≡ none → ((n : ℕ) → numberOf (refusedBy n) ≡ n) → Judges tests numberOf (cond (accepted (firstOf tests)) good (refusedBy (firstOf tests))) refusedBy
   chosen x g r =
       record {
         exact = x;
@@ -51,7 +50,7 @@ module _ {A : Type 0} (tests : List (Bool × ℕ)) (numberOf : A → ℕ) (good 
       }
 
 -- an answer that one test refuses
-by-one : {A : Type 0} (test : Bool) (numberOf : A → ℕ) (good : A) (refusedBy : ℕ → A) → numberOf good ≡ none → ((n : ℕ) → numberOf (refusedBy n) ≡ n)
+pub by-one : {A : Type 0} (test : Bool) (numberOf : A → ℕ) (good : A) (refusedBy : ℕ → A) → numberOf good ≡ none → ((n : ℕ) → numberOf (refusedBy n) ≡ n)
     → Judges ((not test, invalidState) ∷ []) numberOf (cond test good (refusedBy invalidState)) refusedBy
 by-one true numberOf good refusedBy g r = record { exact = exact _ refl; number = g; kept = λ e. absurd (false≢true (sym e)) }
 by-one false numberOf good refusedBy g r = record { exact = exact _ refl; number = r invalidState; kept = λ e. refl }
@@ -172,10 +171,6 @@ demand1 =
       buffer-kept = λ r buffer e. rw e;
       plan = plan-judges;
       tx-kept = λ s x tx at e. rw e;
-      plan-live = λ s x.
-          let j = plan-judges s x in
-          record { exact = j .exact; number = j .number; kept = λ e. ap answerOf (j .kept e) };
-      live-kept = λ s x e. rw e;
       program-input = λ input. exact _ refl;
       input-refused = refused-input;
       input-taken = taken;

@@ -37,8 +37,6 @@ use Rattle.planner.specs.Submission.{Submission}
 use Rattle.planner.specs.Refusals.{refusals}
 use Rattle.planner.specs.Planned.{planned}
 use Rattle.planner.specs.Buffer.{txAfter}
-use Rattle.live.specs.declared.Answer.{Answer}
-use Rattle.live.specs.Answers.{answerOf}
 use Rattle.console.specs.Line.{line}
 use Rattle.console.specs.Turn.{fresh, isRead, submitted}
 use Rattle.console.specs.Transcript.{inputLimit, session, transcriptOf}
@@ -86,13 +84,6 @@ pub record Demand1 : Type 0 where
   pub tx-kept : (s : Converter) (x : Submission) (tx : List ℕ) (at : ℕ)
       → accepted (firstOf (refusals s (fieldOf (s .registers)) x)) ≡ false
       → txAfter s x tx at ≡ tx
-  -- the live planner: what it answers, and the state that was lent to it, beside the transmit buffer above
-  pub plan-live : (s : Converter) (x : Submission)
-      → Judges (refusals s (fieldOf (s .registers)) x) (λ (a : Answer). a .refusal) (answerOf (planned s x))
-      (λ n. record { refusal = n; length = 0 })
-  pub live-kept : (s : Converter) (x : Submission)
-      → accepted (firstOf (refusals s (fieldOf (s .registers)) x)) ≡ false
-      → planned s x .next ≡ s
   -- the program: an input that is refused prints its number alone (14, or 1 without a party byte);
   pub program-input : (input : List ℕ) → Exact (inputRefusals input)
   pub input-refused : (input : List ℕ) → accepted (firstOf (inputRefusals input)) ≡ false

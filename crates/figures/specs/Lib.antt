@@ -1,3 +1,4 @@
 pub mod Figures
 pub mod FreshChannels
 pub mod WholeChannel
+pub mod FourConverters

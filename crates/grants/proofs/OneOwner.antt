@@ -38,11 +38,11 @@ grant-keeps-valid s caller receiver channel v =
     (λ e. reassigned-valid s channel receiver v (grantable s caller receiver channel (eqb-true _ _ e) .receiver-known)) (λ e. v)
 
 module _ (s : Converter) (caller receiver channel : ℕ) where
-  accepted-is : granted s caller receiver channel .refusal ≡ none → granted s caller receiver channel ≡ moved none (reassigned s channel receiver)
+  pub accepted-is : granted s caller receiver channel .refusal ≡ none → granted s caller receiver channel ≡ moved none (reassigned s channel receiver)
   unfolding granted
   accepted-is e = rw (eq-eqb _ _ (sym (grant-number s caller receiver channel) ∙ e))
 
-  refused-is : (granted s caller receiver channel .refusal ≡ none → ⊥) → granted s caller receiver channel .next ≡ s
+  pub refused-is : (granted s caller receiver channel .refusal ≡ none → ⊥) → granted s caller receiver channel .next ≡ s
   unfolding granted
   refused-is e = rw (ne-eqb _ _ (λ z. e (grant-number s caller receiver channel ∙ z)))
 

@@ -32,7 +32,7 @@ numbers-are [] s t c k = refl
 numbers-are (x ∷ l) s t c k = rw (number-is t x, refusal-is s t c k x, numbers-are l s (next t x) (cellsAfter s c x) (held-next s t c k x))
 
 -- the output
-rest-next : (s : Converter) (x : Submission) (l : List ℕ) (b : Bool)
+pub rest-next : (s : Converter) (x : Submission) (l : List ℕ) (b : Bool)
     → withOutput (withRegisters (next s x) l) (cond b Empty (next s x .output))
     ≡ withOutput (withRegisters s l) (cond (accepted (refusalOf s x) || b) Empty (s .output))
 unfolding planned changed

@@ -115,11 +115,11 @@ unfolding getLastD
 last-cons v first [] = refl
 last-cons v first (w ∷ values) = getLast-cons v (cons-ne-nil w values)
 
-last-append : (xs ys : List ℕ) (first : ℕ) → getLastD (xs ++ ys) first ≡ getLastD ys (getLastD xs first)
+pub last-append : (xs ys : List ℕ) (first : ℕ) → getLastD (xs ++ ys) first ≡ getLastD ys (getLastD xs first)
 last-append [] ys first = unfold getLastD in refl
 last-append (v ∷ xs) ys first = last-cons v first (xs ++ ys) ∙ last-append xs ys v ∙ rw (last-cons v first xs)
 
-last-value : (given : List Setting) (c : Values) (m f n : ℕ) → withValues c m given f n ≡ getLastD (valuesFor m given f n) (c f n)
+pub last-value : (given : List Setting) (c : Values) (m f n : ℕ) → withValues c m given f n ≡ getLastD (valuesFor m given f n) (c f n)
 unfolding withValues valuesFor
 last-value [] c m f n = unfold getLastD in refl
 last-value (a ∷ rest) c m f n =

@@ -99,7 +99,7 @@ module _ (s : Converter) (d : Values) (x : Submission) where
         (held-next s t b kt x .formed .registers .bytes r) (held-next s u c ku x .formed .registers .bytes r)
         (λ i lt. bits r i (own-register s t b x kt p r inside e i))
 
-    alike : Alike s x (judged s d x) (plan t x) (plan u x)
+    pub alike : Alike s x (judged s d x) (plan t x) (plan u x)
     unfolding planWriting
     alike =
         let one = plan-is s t b d x kt (number-own t b kt st) in

@@ -1,10 +1,12 @@
-//! The proved library as a bench of the harness, beside the independent model.
+//! The proved library as an implementation for the harness, beside the independent model.
 
 #![forbid(unsafe_code)]
 
+pub mod bench;
+
 use std::ops::Range;
 
-use harness::{Bench, Converter, Direction, Phase, Rail, Request, Transfer};
+use harness::{Converter, Direction, OneConverter, Phase, Rail, Request, Transfer};
 use rimevelvet::State;
 
 /// The proved library behind its safe wrappers.
@@ -81,6 +83,39 @@ pub fn whole(s: State) -> Converter {
     c
 }
 
+/// A sound state's bytes, changed in one of nine ways so that they stand for none.
+pub fn spoilt(sound: State, way: usize) -> State {
+    let mut s = sound;
+    match way {
+        0 => s.output = 2,
+        1 => s.continuous = 2,
+        2 => s.standby = 255,
+        3 => s.converting = 2,
+        4 => s.phase = 3,
+        5 => (s.phase, s.direction) = (1, 2),
+        6 => (s.output, s.place) = (0, 1),
+        7 => (s.phase, s.direction) = (0, 1),
+        _ => (s.phase, s.remaining) = (0, 1),
+    }
+    s
+}
+
+/// A frame whose codes are all the highest and whose bits are all set.
+pub fn full_frame() -> Vec<u8> {
+    let mut frame = [0x7F, 0xFF, 0xFF].repeat(9);
+    frame[0] = 0xCF;
+    frame
+}
+
+/// What a reading from bytes that stand for no state answers.
+pub const NOTHING_READ: rimevelvet::Reading = rimevelvet::Reading {
+    refusal: 13,
+    code: 0,
+    rail: rimevelvet::Rail::Neither,
+    p: 0,
+    n: 0,
+};
+
 fn flag(code: u8) -> bool {
     assert!(code <= 1, "flag {code}");
     code == 1
@@ -93,6 +128,11 @@ fn rail(rail: rimevelvet::Rail) -> Rail {
         rimevelvet::Rail::Lowest => Rail::Lowest,
         rimevelvet::Rail::Highest => Rail::Highest,
     }
+}
+
+/// The harness's form of a reading.
+fn reading(a: rimevelvet::Reading) -> (u8, i32, Rail, bool, bool) {
+    (a.refusal, a.code, rail(a.rail), flag(a.p), flag(a.n))
 }
 
 /// The library's form of a request.
@@ -109,7 +149,7 @@ pub fn lent(request: Request) -> rimevelvet::Request {
     }
 }
 
-impl Bench for Proved {
+impl OneConverter for Proved {
     fn power_up(&self, id: u8) -> (u8, Converter) {
         let a = rimevelvet::power_up(id);
         (a.refusal, whole(a.converter))
@@ -142,8 +182,7 @@ impl Bench for Proved {
         channel: u32,
         frame: &[u8],
     ) -> (u8, i32, Rail, bool, bool) {
-        let a = rimevelvet::read_channel(flat(c), party, channel, frame);
-        (a.refusal, a.code, rail(a.rail), flag(a.p), flag(a.n))
+        reading(rimevelvet::read_channel(flat(c), party, channel, frame))
     }
 
     fn channel_bytes(&self, c: Converter, party: u32, channel: u32, frame: &[u8]) -> Range<usize> {

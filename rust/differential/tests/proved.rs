@@ -1,9 +1,9 @@
 //! The proved library against the independent model, and on its own.
 
-use differential::{flat, Proved};
+use differential::{flat, full_frame, spoilt, Proved, NOTHING_READ};
 use harness::random::Random;
 use harness::{figure_tests, settings, states};
-use rimevelvet::{Rail, Reading, Request, State, LONGEST_PLAN, LONGEST_REQUEST};
+use rimevelvet::{Request, State, LONGEST_PLAN, LONGEST_REQUEST};
 
 figure_tests! { Proved }
 
@@ -31,36 +31,10 @@ fn longest_lengths_are_reached() {
     assert_eq!((planned.refusal, planned.length), (0, LONGEST_PLAN));
 }
 
-/// A sound state's bytes, changed in one of nine ways so that they stand for none.
-fn spoilt(sound: State, way: usize) -> State {
-    let mut s = sound;
-    match way {
-        0 => s.output = 2,
-        1 => s.continuous = 2,
-        2 => s.standby = 255,
-        3 => s.converting = 2,
-        4 => s.phase = 3,
-        5 => (s.phase, s.direction) = (1, 2),
-        6 => (s.output, s.place) = (0, 1),
-        7 => (s.phase, s.direction) = (0, 1),
-        _ => (s.phase, s.remaining) = (0, 1),
-    }
-    s
-}
-
-/// An owner's reading of a frame whose codes are all the highest, from bytes that stand for no state.
+/// An owner's reading from bytes that stand for no state.
 fn nothing_is_read(s: State) {
-    let mut frame = [0x7F, 0xFF, 0xFF].repeat(9);
-    frame[0] = 0xCF;
-    let refused = Reading {
-        refusal: 13,
-        code: 0,
-        rail: Rail::Neither,
-        p: 0,
-        n: 0,
-    };
-    let reading = rimevelvet::read_channel(s, s.owners[0].into(), 1, &frame);
-    assert_eq!(reading, refused);
+    let reading = rimevelvet::read_channel(s, s.owners[0].into(), 1, &full_frame());
+    assert_eq!(reading, NOTHING_READ);
 }
 
 /// Bytes that stand for no state are refused by 13 and handed back as they came.

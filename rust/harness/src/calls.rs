@@ -3,7 +3,7 @@
 use std::collections::VecDeque;
 
 use crate::random::Random;
-use crate::{cells, states, Bench, Converter, Model, Phase, Rail, Request, WHOLE_CHANNEL};
+use crate::{cells, states, Converter, Model, OneConverter, Phase, Rail, Request, WHOLE_CHANNEL};
 
 #[derive(Clone, Debug, PartialEq, Eq)]
 pub enum Call {
@@ -78,24 +78,37 @@ pub(crate) const RAIL: usize = 1;
 
 /// Everything a call left behind.
 #[derive(Clone, Debug, PartialEq, Eq)]
-pub struct Outcome {
+pub struct Outcome<State = Converter> {
     /// `None` for entry points that answer without a number.
     pub refusal: Option<u8>,
-    /// The other numbers of the answer, in the order of `Bench`, then zeros.
+    /// The other numbers of the answer, in the order in which the entry point
+    /// gives them, then zeros.
     pub numbers: [i64; NUMBERS],
     /// The lent buffer afterwards, or the program's output.
     pub buffer: Vec<u8>,
-    pub state: Converter,
+    pub state: State,
+}
+
+impl<State> Outcome<State> {
+    /// What a call that answers nothing leaves behind.
+    pub(crate) fn on(state: State) -> Outcome<State> {
+        Outcome {
+            refusal: None,
+            numbers: [0; NUMBERS],
+            buffer: Vec::new(),
+            state,
+        }
+    }
 }
 
 /// Numbers of an answer, then zeros.
-fn filled(numbers: impl IntoIterator<Item = i64>) -> [i64; NUMBERS] {
+pub(crate) fn filled(numbers: impl IntoIterator<Item = i64>) -> [i64; NUMBERS] {
     let mut numbers = numbers.into_iter();
     std::array::from_fn(|_| numbers.next().unwrap_or(0))
 }
 
 /// A rail's number at the library's boundary.
-fn rail_number(rail: Rail) -> i64 {
+pub(crate) fn rail_number(rail: Rail) -> i64 {
     match rail {
         Rail::Neither => 0,
         Rail::Lowest => 1,
@@ -104,13 +117,8 @@ fn rail_number(rail: Rail) -> i64 {
 }
 
 /// Makes the call on a copy of its buffer.
-pub fn perform(bench: &impl Bench, c: Converter, call: &Call) -> Outcome {
-    let mut outcome = Outcome {
-        refusal: None,
-        numbers: [0; NUMBERS],
-        buffer: Vec::new(),
-        state: c,
-    };
+pub fn perform(bench: &impl OneConverter, c: Converter, call: &Call) -> Outcome {
+    let mut outcome = Outcome::on(c);
     match call {
         Call::PowerUp { id } => {
             let (refusal, state) = bench.power_up(*id);

@@ -1,4 +1,5 @@
-//! The settings once more, as one flat table of the harness's own.
+//! The settings once more, as one flat table of the harness's own; and which
+//! of several converters a channel number means.
 
 use crate::Request;
 
@@ -70,9 +71,50 @@ pub fn find(field: u32, channel: u32) -> Option<Cell> {
     }
 }
 
+/// Which of several converters a channel number belongs to, and its number
+/// there. Each converter's eight channels come first, one converter's behind
+/// the other's. The shared settings of the first converter go by 0, those of
+/// the others by the numbers behind the last channel.
+pub fn locate(converters: usize, channel: u32) -> Option<(usize, u32)> {
+    let number = channel as usize;
+    let behind = number.saturating_sub(8 * converters);
+    match (number, behind) {
+        (0, _) => Some((0, 0)),
+        (_, 0) => Some(((number - 1) / 8, (channel - 1) % 8 + 1)),
+        _ if behind < converters => Some((behind, 0)),
+        _ => None,
+    }
+}
+
+/// The number that `locate` takes for a converter's channel, or for its shared
+/// settings (channel 0).
+pub fn channel_number(converters: usize, converter: usize, channel: u32) -> u32 {
+    match (converter, channel) {
+        (0, 0) => 0,
+        (_, 0) => (8 * converters + converter) as u32,
+        _ => 8 * converter as u32 + channel,
+    }
+}
+
+/// The converter a request is for, and the request as that converter alone
+/// would have it.
+pub fn localised(converters: usize, request: &Request) -> Option<(usize, Request)> {
+    let (converter, channel) = locate(converters, request.channel)?;
+    let local = Request {
+        channel,
+        ..*request
+    };
+    Some((converter, local))
+}
+
 /// Whether a field number names anything with some channel.
 pub fn is_known(field: u32) -> bool {
     matches!(field, 1..=26 | WHOLE)
+}
+
+/// Whether a field lies in a register that has a bit for each channel.
+pub fn has_bit_for_each_channel(field: u32) -> bool {
+    BIT_PER_CHANNEL.iter().any(|row| row.0 == field)
 }
 
 /// The settings a request names, each with its value; none where field and
@@ -127,10 +169,5 @@ impl Cell {
             0 => 0,
             channel => u32::from(owners[channel as usize - 1]),
         }
-    }
-
-    /// Whether its register holds settings of several channels.
-    pub fn register_is_shared_by_channels(&self) -> bool {
-        (5..=9).contains(&self.field)
     }
 }

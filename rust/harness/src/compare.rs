@@ -1,4 +1,5 @@
-//! Drives two benches through the same calls and stops where they differ.
+//! Drives two implementations through the same calls and stops where they
+//! differ.
 
 use std::collections::BTreeMap;
 use std::fmt;
@@ -6,7 +7,10 @@ use std::fmt;
 use crate::calls::{self, Call, Outcome, Script, RAIL};
 use crate::random::Random;
 use crate::states::{self, DAMAGES};
-use crate::{Bench, Converter};
+use crate::{Converter, OneConverter};
+
+/// How often each entry point gave each refusal number, or none.
+pub type Answers = BTreeMap<(&'static str, Option<u8>), u64>;
 
 /// How often each entry point gave each answer.
 #[derive(Clone, Debug, Default, PartialEq, Eq)]
@@ -14,7 +18,7 @@ pub struct Stats {
     pub calls: u64,
     /// By entry point and refusal number. `channel_bytes` counts as 0 when
     /// its part is not empty; it and `console` count as `None` otherwise.
-    pub answers: BTreeMap<(&'static str, Option<u8>), u64>,
+    pub answers: Answers,
     /// Accepted readings by their rail's number: neither, lowest, highest.
     pub rails: [u64; 3],
     /// Accepted readings of a code next to an end of its range.
@@ -35,20 +39,26 @@ impl Stats {
     }
 }
 
+/// A line for each entry point.
+pub(crate) fn write_answers(f: &mut fmt::Formatter<'_>, answers: &Answers) -> fmt::Result {
+    let mut entry = "";
+    for ((name, number), count) in answers {
+        if *name != entry {
+            write!(f, "\n  {name}:")?;
+            entry = name;
+        }
+        match number {
+            Some(number) => write!(f, " {number}x{count}")?,
+            None => write!(f, " -x{count}")?,
+        }
+    }
+    Ok(())
+}
+
 impl fmt::Display for Stats {
     fn fmt(&self, f: &mut fmt::Formatter<'_>) -> fmt::Result {
         write!(f, "{} calls:", self.calls)?;
-        let mut entry = "";
-        for ((name, number), count) in &self.answers {
-            if *name != entry {
-                write!(f, "\n  {name}:")?;
-                entry = name;
-            }
-            match number {
-                Some(number) => write!(f, " {number}x{count}")?,
-                None => write!(f, " -x{count}")?,
-            }
-        }
+        write_answers(f, &self.answers)?;
         let [neither, lowest, highest] = self.rails;
         write!(
             f,
@@ -58,7 +68,7 @@ impl fmt::Display for Stats {
     }
 }
 
-/// The first call on which two benches differ, with all it takes to repeat it.
+/// The first call on which two implementations differ, with all it takes to repeat it.
 #[derive(Clone, Debug, PartialEq, Eq)]
 pub struct Disagreement {
     pub seed: u64,
@@ -79,6 +89,22 @@ impl fmt::Display for Disagreement {
 }
 
 /// A stream of calls in sessions, each with the state to make it on.
+pub(crate) trait Sessions {
+    type State: Copy + fmt::Debug + PartialEq;
+    type Call: fmt::Debug;
+
+    fn random(&mut self) -> &mut Random;
+
+    /// A new state if a session begins, and the call to make.
+    fn next(&mut self, present: Option<&Self::State>) -> (Option<Self::State>, Self::Call);
+
+    /// Cuts a session short that can only go on being refused.
+    fn heed(&mut self, outcome: &Outcome<Self::State>);
+
+    fn entry(call: &Self::Call) -> &'static str;
+}
+
+/// Sessions with one converter.
 pub(crate) struct Driver {
     random: Random,
     script: Script,
@@ -93,13 +119,17 @@ impl Driver {
             left: 0,
         }
     }
+}
 
-    pub(crate) fn random(&mut self) -> &mut Random {
+impl Sessions for Driver {
+    type State = Converter;
+    type Call = Call;
+
+    fn random(&mut self) -> &mut Random {
         &mut self.random
     }
 
-    /// A new state if a session begins, and the call to make.
-    pub(crate) fn next(&mut self, present: Option<&Converter>) -> (Option<Converter>, Call) {
+    fn next(&mut self, present: Option<&Converter>) -> (Option<Converter>, Call) {
         if let (Some(present), true) = (present, self.left > 0) {
             self.left -= 1;
             return (
@@ -139,34 +169,34 @@ impl Driver {
         )
     }
 
-    /// Cuts a session short that can only go on being refused.
-    pub(crate) fn heed(&mut self, outcome: &Outcome) {
+    fn heed(&mut self, outcome: &Outcome) {
         if outcome.refusal == Some(13) {
             self.left = self.left.min(6);
         }
     }
+
+    fn entry(call: &Call) -> &'static str {
+        call.entry()
+    }
 }
 
-/// Makes `calls` random calls on both benches. Answers, buffers and states
-/// must be alike after every single one.
-pub fn compare(
-    a: &impl Bench,
-    b: &impl Bench,
-    calls: u64,
-    seed: u64,
-) -> Result<Stats, Disagreement> {
-    let mut driver = Driver::new(seed);
-    let mut stats = Stats::default();
-    let mut states: Option<(Converter, Converter)> = None;
+/// Makes `calls` calls on both implementations. Answers, buffers and states
+/// must be alike after every single one, which is then noted.
+pub(crate) fn lockstep<D: Sessions>(
+    driver: &mut D,
+    (calls, seed): (u64, u64),
+    a: impl Fn(D::State, &D::Call) -> Outcome<D::State>,
+    b: impl Fn(D::State, &D::Call) -> Outcome<D::State>,
+    mut note: impl FnMut(&D::State, &D::Call, &Outcome<D::State>),
+) -> Result<(), Disagreement> {
+    let mut states = None;
     for index in 0..calls {
         let (fresh, call) = driver.next(states.as_ref().map(|(state, _)| state));
-        let (state_a, state_b) = match (fresh, states) {
-            (Some(fresh), _) => (fresh, fresh),
-            (None, Some(states)) => states,
-            (None, None) => unreachable!("the first call begins a session"),
-        };
-        let outcome_a = calls::perform(a, state_a, &call);
-        let outcome_b = calls::perform(b, state_b, &call);
+        let (state_a, state_b) = fresh
+            .map(|fresh| (fresh, fresh))
+            .or(states)
+            .expect("the first call begins a session");
+        let (outcome_a, outcome_b) = (a(state_a, &call), b(state_b, &call));
         if outcome_a != outcome_b {
             let report = format!(
                 "{call:x?}\n on {state_a:x?}\n first answers {outcome_a:x?}\n second answers {outcome_b:x?}"
@@ -174,13 +204,32 @@ pub fn compare(
             return Err(Disagreement {
                 seed,
                 index,
-                entry: call.entry(),
+                entry: D::entry(&call),
                 report,
             });
         }
-        stats.note(&call, &outcome_a);
+        note(&state_a, &call, &outcome_a);
         driver.heed(&outcome_a);
         states = Some((outcome_a.state, outcome_b.state));
     }
+    Ok(())
+}
+
+/// Random calls for one converter, requests and the program, on both
+/// implementations.
+pub fn compare(
+    a: &impl OneConverter,
+    b: &impl OneConverter,
+    calls: u64,
+    seed: u64,
+) -> Result<Stats, Disagreement> {
+    let mut stats = Stats::default();
+    lockstep(
+        &mut Driver::new(seed),
+        (calls, seed),
+        |state, call| calls::perform(a, state, call),
+        |state, call| calls::perform(b, state, call),
+        |_, call, outcome| stats.note(call, outcome),
+    )?;
     Ok(stats)
 }

@@ -4,7 +4,7 @@
 //! No. 2 has them. Each panics on a mismatch.
 
 use crate::cells;
-use crate::{Bench, Converter, Direction, Phase, Rail, Request, Transfer};
+use crate::{Converter, Direction, OneConverter, Phase, Rail, Request, Transfer};
 
 const NOTHING_READ: Request = Request {
     field: 0,
@@ -12,34 +12,34 @@ const NOTHING_READ: Request = Request {
     values: [0; 9],
 };
 
-const SOME_CODES: [i32; 8] = [8_388_607, -8_388_608, -1, 0, 1, -2, 65_536, -65_537];
+pub(crate) const SOME_CODES: [i32; 8] = [8_388_607, -8_388_608, -1, 0, 1, -2, 65_536, -65_537];
 
-fn fresh(bench: &impl Bench) -> Converter {
+fn fresh(bench: &impl OneConverter) -> Converter {
     let (refusal, c) = bench.power_up(0x3E);
     assert_eq!(refusal, 0, "power-up");
     c
 }
 
 /// Sends bytes that must all be taken; gives the bytes out and the state.
-fn send(bench: &impl Bench, c: Converter, bytes: &[u8]) -> (Vec<u8>, Converter) {
+fn send(bench: &impl OneConverter, c: Converter, bytes: &[u8]) -> (Vec<u8>, Converter) {
     crate::laws::send(bench, c, bytes).expect("no byte may be refused")
 }
 
-fn after(bench: &impl Bench, c: Converter, bytes: &[u8]) -> Converter {
+fn after(bench: &impl OneConverter, c: Converter, bytes: &[u8]) -> Converter {
     send(bench, c, bytes).1
 }
 
-fn command_mode(bench: &impl Bench) -> Converter {
+fn command_mode(bench: &impl OneConverter) -> Converter {
     after(bench, fresh(bench), &[0x11])
 }
 
 /// In command mode, converting, with one sample taken.
-fn sampled(bench: &impl Bench) -> Converter {
+fn sampled(bench: &impl OneConverter) -> Converter {
     let c = after(bench, command_mode(bench), &[0x08]);
     take(bench, c, &SOME_CODES, 0xA5, 0x3C)
 }
 
-fn take(bench: &impl Bench, c: Converter, codes: &[i32], p: u8, n: u8) -> Converter {
+fn take(bench: &impl OneConverter, c: Converter, codes: &[i32], p: u8, n: u8) -> Converter {
     let (refusal, next) = bench.sample(c, codes, p, n);
     assert_eq!(refusal, 0, "sample");
     next
@@ -48,7 +48,7 @@ fn take(bench: &impl Bench, c: Converter, codes: &[i32], p: u8, n: u8) -> Conver
 /// A plan for one field into a buffer of exactly `room` bytes: number, plan,
 /// state.
 fn plan(
-    bench: &impl Bench,
+    bench: &impl OneConverter,
     c: Converter,
     [party, field, channel, value]: [u32; 4],
     room: usize,
@@ -58,7 +58,7 @@ fn plan(
 
 /// The same for any request.
 fn plan_request(
-    bench: &impl Bench,
+    bench: &impl OneConverter,
     c: Converter,
     party: u32,
     request: Request,
@@ -77,17 +77,22 @@ fn plan_request(
     (refusal, tx, next)
 }
 
-fn number(bench: &impl Bench, c: Converter, request: [u32; 4]) -> u8 {
+fn number(bench: &impl OneConverter, c: Converter, request: [u32; 4]) -> u8 {
     plan(bench, c, request, 7).0
 }
 
-fn granted(bench: &impl Bench, c: Converter, receiver: u32, channel: u32) -> Converter {
+fn granted(bench: &impl OneConverter, c: Converter, receiver: u32, channel: u32) -> Converter {
     let (refusal, next) = bench.grant(c, 0, receiver, channel);
     assert_eq!(refusal, 0, "grant");
     next
 }
 
-fn counting(c: Converter, direction: Direction, address: u8, remaining: u8) -> Converter {
+pub(crate) fn counting(
+    c: Converter,
+    direction: Direction,
+    address: u8,
+    remaining: u8,
+) -> Converter {
     Converter {
         phase: Phase::Counting(Transfer {
             direction,
@@ -98,7 +103,7 @@ fn counting(c: Converter, direction: Direction, address: u8, remaining: u8) -> C
     }
 }
 
-fn held(c: Converter, direction: Direction, address: u8, remaining: u8) -> Converter {
+pub(crate) fn held(c: Converter, direction: Direction, address: u8, remaining: u8) -> Converter {
     Converter {
         phase: Phase::Held(Transfer {
             direction,
@@ -110,11 +115,11 @@ fn held(c: Converter, direction: Direction, address: u8, remaining: u8) -> Conve
 }
 
 /// All that a refused reading tells.
-fn unread(refusal: u8) -> (u8, i32, Rail, bool, bool) {
+pub(crate) fn unread(refusal: u8) -> (u8, i32, Rail, bool, bool) {
     (refusal, 0, Rail::Neither, false, false)
 }
 
-fn frame_with(first: [u8; 3], channel: usize, code: [u8; 3]) -> [u8; 27] {
+pub(crate) fn frame_with(first: [u8; 3], channel: usize, code: [u8; 3]) -> [u8; 27] {
     let mut frame = [0; 27];
     frame[..3].copy_from_slice(&first);
     frame[3 * channel..3 * channel + 3].copy_from_slice(&code);
@@ -123,7 +128,7 @@ fn frame_with(first: [u8; 3], channel: usize, code: [u8; 3]) -> [u8; 27] {
 
 // Document 01's own figures.
 
-pub fn fig01_to_04_plans(bench: &impl Bench) {
+pub fn fig01_to_04_plans(bench: &impl OneConverter) {
     let gain = [0, 2, 3, 4];
     let c = command_mode(bench);
     assert_eq!(plan(bench, c, gain, 3).1, [0x47, 0x00, 0x41]);
@@ -139,17 +144,17 @@ pub fn fig01_to_04_plans(bench: &impl Bench) {
     assert_eq!(plan(bench, c, gain, 6).0, 9);
 }
 
-pub fn fig05_others_bits_kept(bench: &impl Bench) {
+pub fn fig05_others_bits_kept(bench: &impl OneConverter) {
     let c = after(bench, command_mode(bench), &[0x4D, 0x00, 0x12]);
     assert_eq!(plan(bench, c, [0, 5, 3, 1], 3).1, [0x4D, 0x00, 0x16]);
 }
 
-pub fn fig06_masked_write(bench: &impl Bench) {
+pub fn fig06_masked_write(bench: &impl OneConverter) {
     let c = after(bench, command_mode(bench), &[0x41, 0x00, 0xFF]);
     assert_eq!(c.registers[1], 0xF7);
 }
 
-pub fn fig07_write_in_continuous_mode_resets(bench: &impl Bench) {
+pub fn fig07_write_in_continuous_mode_resets(bench: &impl OneConverter) {
     let c = after(bench, command_mode(bench), &[0x45, 0x00, 0x81, 0x08, 0x10]);
     let c = granted(bench, granted(bench, c, 5, 2), 1, 8);
     let c = take(bench, c, &SOME_CODES, 0x55, 0x66);
@@ -161,14 +166,14 @@ pub fn fig07_write_in_continuous_mode_resets(bench: &impl Bench) {
     assert_eq!(after(bench, c, &[0x45, 0x00, 0x06]), expected);
 }
 
-pub fn fig08_register_read(bench: &impl Bench) {
+pub fn fig08_register_read(bench: &impl OneConverter) {
     let c = command_mode(bench);
     let (out, next) = send(bench, c, &[0x20, 0x01, 0x00, 0x00]);
     assert_eq!(out, [0x00, 0x00, 0x3E, 0x96]);
     assert_eq!(next, c);
 }
 
-pub fn fig09_to_11_codes(bench: &impl Bench) {
+pub fn fig09_to_11_codes(bench: &impl OneConverter) {
     let rows = [
         ([0x7F, 0xFF, 0xFF], 8_388_607, Rail::Highest),
         ([0x80, 0x00, 0x00], -8_388_608, Rail::Lowest),
@@ -191,7 +196,7 @@ pub fn fig09_to_11_codes(bench: &impl Bench) {
     }
 }
 
-pub fn fig12_frame_start(bench: &impl Bench) {
+pub fn fig12_frame_start(bench: &impl OneConverter) {
     let c = take(
         bench,
         after(bench, fresh(bench), &[0x08]),
@@ -202,7 +207,7 @@ pub fn fig12_frame_start(bench: &impl Bench) {
     assert_eq!(c.latest[..3], [0xC0, 0x18, 0x00]);
 }
 
-pub fn fig15_to_18_parties_and_values(bench: &impl Bench) {
+pub fn fig15_to_18_parties_and_values(bench: &impl OneConverter) {
     let c = granted(bench, fresh(bench), 1, 3);
     assert_eq!(number(bench, c, [2, 2, 3, 4]), 6);
     assert_eq!(number(bench, c, [0, 12, 0, 6]), 0);
@@ -215,7 +220,7 @@ pub fn fig15_to_18_parties_and_values(bench: &impl Bench) {
     assert_eq!(bench.grant(c, 0, 9, 3), (3, c));
 }
 
-pub fn fig19_request_reading(bench: &impl Bench) {
+pub fn fig19_request_reading(bench: &impl OneConverter) {
     let rows: [(&[u8], u8); 9] = [
         (&[0x83, 0x00], 2),
         (&[0x83, 0x80], 2),
@@ -248,7 +253,7 @@ pub fn fig19_request_reading(bench: &impl Bench) {
     );
 }
 
-pub fn fig20_program_case(bench: &impl Bench) {
+pub fn fig20_program_case(bench: &impl OneConverter) {
     let output = bench.console(&[0x01, 0x02, 0x03, 0x04, 0x02, 0x03, 0x07, 0x02]);
     assert_eq!(output, b"0 11 47 00 41 10\n7\n1\n");
 }
@@ -264,7 +269,7 @@ const MASKS: [u8; 24] = [
     0xFF, 0xFF, 0x00, 0x00, 0xFF, 0x20, 0x00, 0x0A,
 ];
 
-pub fn reg1_reg2_reg8_power_up(bench: &impl Bench) {
+pub fn reg1_reg2_reg8_power_up(bench: &impl OneConverter) {
     let expected = Converter {
         registers: POWER_UP,
         owners: [0; 8],
@@ -283,7 +288,7 @@ pub fn reg1_reg2_reg8_power_up(bench: &impl Bench) {
     assert_eq!(out[2..], POWER_UP);
 }
 
-pub fn reg3_reg4_masks(bench: &impl Bench) {
+pub fn reg3_reg4_masks(bench: &impl OneConverter) {
     for (address, mask) in MASKS.into_iter().enumerate() {
         for filling in [0x00, 0xFF, 0x5A] {
             let mut c = command_mode(bench);
@@ -298,7 +303,7 @@ pub fn reg3_reg4_masks(bench: &impl Bench) {
     }
 }
 
-pub fn reg5_past_the_last_register(bench: &impl Bench) {
+pub fn reg5_past_the_last_register(bench: &impl OneConverter) {
     let c = command_mode(bench);
     let (_, next) = send(bench, c, &[0x57, 0x02, 0xFF, 0xFF, 0xFF]);
     let mut expected = c;
@@ -314,7 +319,7 @@ pub fn reg5_past_the_last_register(bench: &impl Bench) {
     assert_ne!(after(bench, c, &write[..33]).phase, Phase::Waiting);
 }
 
-pub fn reg7_reg9_ids(bench: &impl Bench) {
+pub fn reg7_reg9_ids(bench: &impl OneConverter) {
     for id in 0..=255u8 {
         let legal = [0x1E, 0x3E, 0x5E, 0x7E, 0x9E, 0xBE, 0xDE, 0xFE].contains(&id);
         let mut expected = fresh(bench);
@@ -326,7 +331,7 @@ pub fn reg7_reg9_ids(bench: &impl Bench) {
 
 // Settings.
 
-pub fn fld1_to_fld4_every_setting(bench: &impl Bench) {
+pub fn fld1_to_fld4_every_setting(bench: &impl OneConverter) {
     for mode in [vec![0x11], vec![], vec![0x04], vec![0x11, 0x04]] {
         for start in [0x00, 0xFF, 0x5A] {
             let mut c = fresh(bench);
@@ -352,7 +357,7 @@ pub fn fld1_to_fld4_every_setting(bench: &impl Bench) {
     }
 }
 
-pub fn fld5_settings_fill_the_masks(_bench: &impl Bench) {
+pub fn fld5_settings_fill_the_masks(_bench: &impl OneConverter) {
     let cells = cells::all();
     assert_eq!(cells.len(), 89);
     let mut covered = [0u8; 24];
@@ -371,7 +376,7 @@ pub fn fld5_settings_fill_the_masks(_bench: &impl Bench) {
 
 // Bytes.
 
-pub fn byt2_byte_out_before_acting(bench: &impl Bench) {
+pub fn byt2_byte_out_before_acting(bench: &impl OneConverter) {
     let c = sampled(bench);
     let mut bytes = vec![0x12];
     bytes.extend([0x00; 11]);
@@ -439,7 +444,7 @@ fn expected_after(c: Converter, byte: u8) -> Converter {
     }
 }
 
-pub fn byt3_byt10_to_byt20_every_byte(bench: &impl Bench) {
+pub fn byt3_byt10_to_byt20_every_byte(bench: &impl OneConverter) {
     for modes in 0..16 {
         let mut c = sampled(bench);
         c.owners = [0, 1, 2, 3, 4, 5, 6, 7];
@@ -457,7 +462,7 @@ pub fn byt3_byt10_to_byt20_every_byte(bench: &impl Bench) {
     }
 }
 
-pub fn byt4_byt16_dropped_command(bench: &impl Bench) {
+pub fn byt4_byt16_dropped_command(bench: &impl OneConverter) {
     let c = command_mode(bench);
     for second in 32..=255 {
         let next = after(bench, c, &[0x41, second]);
@@ -468,7 +473,7 @@ pub fn byt4_byt16_dropped_command(bench: &impl Bench) {
     assert_eq!(out, [0x00, 0xCA, 0x53, 0x00, 0x00]);
 }
 
-pub fn byt5_byt6_registers_change_at_their_own_byte(bench: &impl Bench) {
+pub fn byt5_byt6_registers_change_at_their_own_byte(bench: &impl OneConverter) {
     let c = command_mode(bench);
     let third = after(bench, c, &[0x45, 0x01, 0x12]);
     assert_eq!((third.registers[5], third.registers[6]), (0x12, 0x61));
@@ -493,13 +498,13 @@ pub fn byt5_byt6_registers_change_at_their_own_byte(bench: &impl Bench) {
     assert_eq!(first, held(c, Direction::Write, 5, 0));
 }
 
-pub fn byt7_no_decoding_during_a_read(bench: &impl Bench) {
+pub fn byt7_no_decoding_during_a_read(bench: &impl OneConverter) {
     let c = sampled(bench);
     let (out, next) = send(bench, c, &[0x20, 0x03, 0x06, 0x04, 0x12, 0x41]);
     assert_eq!((out, next), (vec![0, 0, 0x3E, 0x96, 0xC0, 0x60], c));
 }
 
-pub fn byt8_registers_read_as_they_stand(bench: &impl Bench) {
+pub fn byt8_registers_read_as_they_stand(bench: &impl OneConverter) {
     let c = after(bench, sampled(bench), &[0x32, 0x01]);
     let c = take(bench, c, &[0; 8], 0x55, 0x00);
     let (out_p, c) = send(bench, c, &[0x00]);
@@ -508,7 +513,7 @@ pub fn byt8_registers_read_as_they_stand(bench: &impl Bench) {
     assert_eq!((out_p[0], out_n[0], c.phase), (0x55, 0x66, Phase::Waiting));
 }
 
-pub fn byt15_acting_empties_output(bench: &impl Bench) {
+pub fn byt15_acting_empties_output(bench: &impl OneConverter) {
     let c = after(bench, sampled(bench), &[0x0A, 0x12, 0x00, 0x00, 0x00]);
     let (out, _) = send(bench, c, &[0x08, 0x00]);
     assert_eq!(out, [0x7F, 0x00]);
@@ -516,7 +521,7 @@ pub fn byt15_acting_empties_output(bench: &impl Bench) {
     assert_eq!(out, [0x7F, 0xFF]);
 }
 
-pub fn byt17_byt18_rdata_restarts_rdatac_does_not_load(bench: &impl Bench) {
+pub fn byt17_byt18_rdata_restarts_rdatac_does_not_load(bench: &impl OneConverter) {
     let c = after(bench, sampled(bench), &[0x12, 0, 0, 0, 0, 0]);
     let (out, c) = send(bench, c, &[0x12, 0x00, 0x00]);
     assert_eq!(out[1..], [0xCA, 0x53]);
@@ -524,7 +529,7 @@ pub fn byt17_byt18_rdata_restarts_rdatac_does_not_load(bench: &impl Bench) {
     assert_eq!(out[1..], [0x00, 0x00]);
 }
 
-pub fn byt21_frame_start_over(bench: &impl Bench) {
+pub fn byt21_frame_start_over(bench: &impl OneConverter) {
     for continuous in [false, true] {
         let start = if continuous {
             after(bench, sampled(bench), &[0x10])
@@ -546,7 +551,7 @@ pub fn byt21_frame_start_over(bench: &impl Bench) {
     }
 }
 
-pub fn byt22_zeros_lead_back_to_waiting(bench: &impl Bench) {
+pub fn byt22_zeros_lead_back_to_waiting(bench: &impl OneConverter) {
     let c = command_mode(bench);
     for direction in [Direction::Read, Direction::Write] {
         for address in 0..=62 {
@@ -565,7 +570,7 @@ pub fn byt22_zeros_lead_back_to_waiting(bench: &impl Bench) {
 }
 
 /// States that break one condition of refusal 13 each.
-fn broken_states(bench: &impl Bench) -> Vec<Converter> {
+pub(crate) fn broken_states(bench: &impl OneConverter) -> Vec<Converter> {
     use Direction::{Read, Write};
     let c = sampled(bench);
     let mut broken = Vec::new();
@@ -611,7 +616,7 @@ fn broken_states(bench: &impl Bench) -> Vec<Converter> {
     broken
 }
 
-pub fn byt23_sel2_tot3_broken_states_refused(bench: &impl Bench) {
+pub fn byt23_sel2_tot3_broken_states_refused(bench: &impl OneConverter) {
     let frame = frame_with([0xCF, 0xFF, 0xFF], 1, [0xFF; 3]);
     for c in broken_states(bench) {
         assert_eq!(bench.step(c, 0x06), (13, 0, c));
@@ -628,7 +633,7 @@ pub fn byt23_sel2_tot3_broken_states_refused(bench: &impl Bench) {
     }
 }
 
-pub fn rule13_edges_pass(bench: &impl Bench) {
+pub fn rule13_edges_pass(bench: &impl OneConverter) {
     use Direction::{Read, Write};
     let c = sampled(bench);
     let mut odd = c;
@@ -672,7 +677,7 @@ pub fn rule13_edges_pass(bench: &impl Bench) {
 
 // Select line.
 
-pub fn sel1_sel3_select_rise(bench: &impl Bench) {
+pub fn sel1_sel3_select_rise(bench: &impl OneConverter) {
     let c = after(bench, sampled(bench), &[0x45, 0x01, 0x12]);
     let (refusal, next) = bench.deselect(c);
     assert_eq!(
@@ -707,7 +712,7 @@ pub fn sel1_sel3_select_rise(bench: &impl Bench) {
 
 // Samples and frames.
 
-pub fn smp1_smp2_judging(bench: &impl Bench) {
+pub fn smp1_smp2_judging(bench: &impl OneConverter) {
     let running = after(bench, command_mode(bench), &[0x08]);
     let sleeping = after(bench, running, &[0x04]);
     let stopped = command_mode(bench);
@@ -739,12 +744,12 @@ pub fn smp1_smp2_judging(bench: &impl Bench) {
     }
 }
 
-pub fn smp3_status_registers(bench: &impl Bench) {
+pub fn smp3_status_registers(bench: &impl OneConverter) {
     let (out, _) = send(bench, sampled(bench), &[0x32, 0x01, 0x00, 0x00]);
     assert_eq!(out[2..], [0xA5, 0x3C]);
 }
 
-pub fn smp4_smp5_frame_bytes(bench: &impl Bench) {
+pub fn smp4_smp5_frame_bytes(bench: &impl OneConverter) {
     let c = after(
         bench,
         command_mode(bench),
@@ -758,7 +763,7 @@ pub fn smp4_smp5_frame_bytes(bench: &impl Bench) {
     assert_eq!(frame, expected);
 }
 
-pub fn smp6_smp7_what_a_sample_changes(bench: &impl Bench) {
+pub fn smp6_smp7_what_a_sample_changes(bench: &impl OneConverter) {
     let base = after(bench, sampled(bench), &[0x57, 0x00, 0x08]);
     let at_place = after(bench, base, &[0x12, 0, 0, 0]);
     let open = after(bench, base, &[0x45, 0x01, 0x12]);
@@ -783,7 +788,7 @@ pub fn smp6_smp7_what_a_sample_changes(bench: &impl Bench) {
 
 // Reading.
 
-pub fn rdr2_order_and_owner(bench: &impl Bench) {
+pub fn rdr2_order_and_owner(bench: &impl OneConverter) {
     let c = granted(bench, fresh(bench), 1, 3);
     let good = frame_with([0xCF, 0xFF, 0xFF], 3, [0xFF; 3]);
     let mut wrong_start = good;
@@ -813,7 +818,7 @@ pub fn rdr2_order_and_owner(bench: &impl Bench) {
     assert_eq!(bench.read_channel(c, 1, 3, &c.latest).0, 12);
 }
 
-pub fn rdr3_lead_off_bits(bench: &impl Bench) {
+pub fn rdr3_lead_off_bits(bench: &impl OneConverter) {
     let base = after(bench, command_mode(bench), &[0x08]);
     for bit in 0..8 {
         for (p, n) in [(1u8 << bit, 0), (0, 1u8 << bit)] {
@@ -829,7 +834,7 @@ pub fn rdr3_lead_off_bits(bench: &impl Bench) {
     }
 }
 
-pub fn rdr5_parts(bench: &impl Bench) {
+pub fn rdr5_parts(bench: &impl OneConverter) {
     let frame = frame_with([0xC0, 0, 0], 1, [1, 2, 3]);
     for channel in 1..=8 {
         let start = 3 * channel as usize;
@@ -842,7 +847,7 @@ pub fn rdr5_parts(bench: &impl Bench) {
 
 // Planning.
 
-pub fn pln3_every_set_of_faults(bench: &impl Bench) {
+pub fn pln3_every_set_of_faults(bench: &impl OneConverter) {
     for faults in 0..256u32 {
         let has = |bit: u32| faults >> bit & 1 == 1;
         let mut c = command_mode(bench);
@@ -868,7 +873,7 @@ pub fn pln3_every_set_of_faults(bench: &impl Bench) {
     }
 }
 
-pub fn pln4_no_further_refusals(bench: &impl Bench) {
+pub fn pln4_no_further_refusals(bench: &impl OneConverter) {
     let c = after(bench, command_mode(bench), &[0x08, 0x47, 0x00, 0xF0]);
     assert_eq!(number(bench, c, [0, 2, 3, 4]), 0);
     assert_eq!(number(bench, c, [0, 1, 3, 1]), 0);
@@ -885,7 +890,7 @@ pub fn pln4_no_further_refusals(bench: &impl Bench) {
     assert_eq!(number(bench, all_ones, [0, 2, 3, 4]), 6);
 }
 
-pub fn pln7_pln8_pln9_places(bench: &impl Bench) {
+pub fn pln7_pln8_pln9_places(bench: &impl OneConverter) {
     let c = after(bench, fresh(bench), &[0x04]);
     let gain = Request::one(2, 3, 4);
     let before: Vec<u8> = (0..12).map(|index| 0xA0 + index).collect();
@@ -916,7 +921,7 @@ pub fn pln7_pln8_pln9_places(bench: &impl Bench) {
     assert_eq!(bench.plan(c, 0, gain, &mut [], 0), (9, 0, c));
 }
 
-pub fn pln10_pln13_state_after(bench: &impl Bench) {
+pub fn pln10_pln13_state_after(bench: &impl OneConverter) {
     for modes in 0..8 {
         let mut c = sampled(bench);
         c.registers[1..].fill(0xFF);
@@ -935,7 +940,7 @@ pub fn pln10_pln13_state_after(bench: &impl Bench) {
 
 // Requests as bytes.
 
-pub fn slw1_to_slw4_writer(bench: &impl Bench) {
+pub fn slw1_to_slw4_writer(bench: &impl OneConverter) {
     let mut buffer = [0xEE; 8];
     let request = Request::one(300, 0, 16_383);
     assert_eq!(bench.request_write(request, &mut buffer), (0, 5));
@@ -958,7 +963,7 @@ pub fn slw1_to_slw4_writer(bench: &impl Bench) {
     }
 }
 
-pub fn slr3_slr5_round_trips(bench: &impl Bench) {
+pub fn slr3_slr5_round_trips(bench: &impl OneConverter) {
     for number in (0..=16_383).step_by(7).chain([127, 128, 16_383]) {
         let numbers = [number, 16_383 - number, number / 2];
         let request = Request::one(numbers[0], numbers[1], numbers[2]);
@@ -974,7 +979,7 @@ pub fn slr3_slr5_round_trips(bench: &impl Bench) {
 
 // Grants.
 
-pub fn grt1_to_grt4_grants(bench: &impl Bench) {
+pub fn grt1_to_grt4_grants(bench: &impl OneConverter) {
     let c = Converter {
         output: Some(3),
         standby: true,
@@ -1008,7 +1013,7 @@ pub fn grt1_to_grt4_grants(bench: &impl Bench) {
 
 // The program.
 
-pub fn prg1_to_prg6_program(bench: &impl Bench) {
+pub fn prg1_to_prg6_program(bench: &impl OneConverter) {
     let rows: [(&[u8], &str); 17] = [
         (&[], "1\n"),
         (&[0x01], ""),
@@ -1046,7 +1051,7 @@ pub fn prg1_to_prg6_program(bench: &impl Bench) {
     }
 }
 
-pub fn prg5_input_limit(bench: &impl Bench) {
+pub fn prg5_input_limit(bench: &impl OneConverter) {
     let mut input = vec![0x01];
     for _ in 0..1365 {
         input.extend([0x02, 0x03, 0x04]);
@@ -1066,10 +1071,10 @@ pub fn prg5_input_limit(bench: &impl Bench) {
 // Document 02's No. 1: requests for a whole channel.
 
 /// Powered down, gain 4, SRB2, input 5; then bits 1, 0, 1, 0, 1.
-const CHANNEL_VALUES: [u32; 9] = [1, 4, 1, 5, 1, 0, 1, 0, 1];
+pub(crate) const CHANNEL_VALUES: [u32; 9] = [1, 4, 1, 5, 1, 0, 1, 0, 1];
 
 /// Registers 0Dh to 11h before, with neighbours' bits set.
-const RUN_BEFORE: [u8; 5] = [0x12, 0xFF, 0x00, 0x04, 0x80];
+pub(crate) const RUN_BEFORE: [u8; 5] = [0x12, 0xFF, 0x00, 0x04, 0x80];
 
 /// What sets channel 3 to `CHANNEL_VALUES` on `RUN_BEFORE`.
 const CHANNEL_3_WRITES: [u8; 10] = [0x47, 0x00, 0xCD, 0x4D, 0x04, 0x16, 0xFB, 0x04, 0x00, 0x84];
@@ -1079,21 +1084,24 @@ fn channel_3() -> Request {
 }
 
 /// Command mode, channel 3 party 1's, neighbours' bits set.
-fn shared_run(bench: &impl Bench) -> Converter {
+fn shared_run(bench: &impl OneConverter) -> Converter {
     let mut c = granted(bench, command_mode(bench), 1, 3);
     c.registers[0x0D..=0x11].copy_from_slice(&RUN_BEFORE);
     c
 }
 
-/// What is sent before and after the writes in each pair of modes.
-const AROUND: [(bool, bool, &[u8], &[u8]); 4] = [
+/// Standby and continuous, and what is then sent before and after the writes.
+pub(crate) type Around = (bool, bool, &'static [u8], &'static [u8]);
+
+/// Each pair of modes.
+pub(crate) const AROUND: [Around; 4] = [
     (false, false, &[], &[]),
     (true, false, &[0x02], &[0x04]),
     (false, true, &[0x11], &[0x10]),
     (true, true, &[0x02, 0x11], &[0x10, 0x04]),
 ];
 
-pub fn no1_plans_in_every_mode(bench: &impl Bench) {
+pub fn no1_plans_in_every_mode(bench: &impl OneConverter) {
     for (standby, continuous, before, after_writes) in AROUND {
         let c = Converter {
             standby,
@@ -1117,7 +1125,7 @@ pub fn no1_plans_in_every_mode(bench: &impl Bench) {
     }
 }
 
-pub fn no1_every_channel_and_filling(bench: &impl Bench) {
+pub fn no1_every_channel_and_filling(bench: &impl OneConverter) {
     for start in [0x00, 0xFF, 0x5A] {
         let mut c = command_mode(bench);
         c.registers[1..].fill(start);
@@ -1139,7 +1147,7 @@ pub fn no1_every_channel_and_filling(bench: &impl Bench) {
     }
 }
 
-pub fn no1_places(bench: &impl Bench) {
+pub fn no1_places(bench: &impl OneConverter) {
     let c = Converter {
         standby: true,
         continuous: true,
@@ -1161,7 +1169,7 @@ pub fn no1_places(bench: &impl Bench) {
     }
 }
 
-pub fn no1_every_value_is_judged(bench: &impl Bench) {
+pub fn no1_every_value_is_judged(bench: &impl OneConverter) {
     let c = shared_run(bench);
     for index in 0..9 {
         let cell = cells::find(index as u32 + 1, 3).expect("a channel's field");
@@ -1175,7 +1183,7 @@ pub fn no1_every_value_is_judged(bench: &impl Bench) {
     }
 }
 
-pub fn no1_every_set_of_faults(bench: &impl Bench) {
+pub fn no1_every_set_of_faults(bench: &impl OneConverter) {
     for (faults, bad) in (0..256u32).flat_map(|faults| (0..9).map(move |bad| (faults, bad))) {
         let has = |bit: u32| faults >> bit & 1 == 1;
         let mut c = shared_run(bench);
@@ -1207,7 +1215,7 @@ pub fn no1_every_set_of_faults(bench: &impl Bench) {
     }
 }
 
-pub fn no1_a_stranger_learns_nothing(bench: &impl Bench) {
+pub fn no1_a_stranger_learns_nothing(bench: &impl OneConverter) {
     let c = shared_run(bench);
     for bad in [[1, 7, 1, 5, 1, 0, 1, 0, 1], [1, 4, 1, 5, 1, 0, 1, 0, 2]] {
         let request = Request::whole_channel(3, bad);
@@ -1217,7 +1225,7 @@ pub fn no1_a_stranger_learns_nothing(bench: &impl Bench) {
     }
 }
 
-pub fn no1_other_fields_use_one_value(bench: &impl Bench) {
+pub fn no1_other_fields_use_one_value(bench: &impl OneConverter) {
     let c = shared_run(bench);
     for rest in [0, 1, 7, 16_384, u32::MAX] {
         let mut request = Request::one(2, 3, 4);
@@ -1235,7 +1243,7 @@ fn short_request(channel: u8, values: [u8; 9]) -> Vec<u8> {
     [&[0x1E, channel], &values[..]].concat()
 }
 
-pub fn no1_reader(bench: &impl Bench) {
+pub fn no1_reader(bench: &impl OneConverter) {
     let values = [1, 2, 3, 4, 5, 6, 7, 8, 9];
     for channel in [0, 3, 9, 127] {
         let mut bytes = short_request(channel, values);
@@ -1254,7 +1262,7 @@ pub fn no1_reader(bench: &impl Bench) {
     assert_eq!(bench.request_read(&longest[..20]), (1, NOTHING_READ, 0));
 }
 
-pub fn no1_reader_from_left_to_right(bench: &impl Bench) {
+pub fn no1_reader_from_left_to_right(bench: &impl OneConverter) {
     for place in 1..11 {
         let mut bytes = short_request(3, [0; 9]);
         bytes[place] = 0x83;
@@ -1279,7 +1287,7 @@ pub fn no1_reader_from_left_to_right(bench: &impl Bench) {
     assert_eq!(bench.request_read(&field_158), (0, request, 4));
 }
 
-pub fn no1_writer(bench: &impl Bench) {
+pub fn no1_writer(bench: &impl OneConverter) {
     let numbers = [300, 0, 127, 128, 1, 16_383, 2, 3, 4];
     let request = Request::whole_channel(9, numbers);
     let bytes = [
@@ -1306,7 +1314,7 @@ pub fn no1_writer(bench: &impl Bench) {
     }
 }
 
-pub fn no1_writer_judges_all_numbers(bench: &impl Bench) {
+pub fn no1_writer_judges_all_numbers(bench: &impl OneConverter) {
     for place in 0..10 {
         for number in [16_384, 65_536, u32::MAX] {
             let mut request = Request::whole_channel(3, [0; 9]);
@@ -1323,7 +1331,7 @@ pub fn no1_writer_judges_all_numbers(bench: &impl Bench) {
     }
 }
 
-pub fn no1_program(bench: &impl Bench) {
+pub fn no1_program(bench: &impl OneConverter) {
     let accepted = short_request(3, [1, 4, 1, 5, 1, 0, 1, 0, 1]);
     let line = "0 11 47 00 CD 4D 04 04 00 04 00 04 10\n";
     let wrong_channel = short_request(9, [0x02; 9]);
@@ -1357,7 +1365,7 @@ pub fn no1_program(bench: &impl Bench) {
     }
 }
 
-pub fn no1_program_input_limit(bench: &impl Bench) {
+pub fn no1_program_input_limit(bench: &impl OneConverter) {
     let mut input = vec![0x01];
     for _ in 0..372 {
         input.extend(short_request(3, [1, 4, 1, 5, 1, 0, 1, 0, 1]));
@@ -1375,12 +1383,12 @@ pub fn no1_program_input_limit(bench: &impl Bench) {
 // Document 02's No. 2: fresh channel registers.
 
 /// What a read of CH1SET to CH8SET brings from a converter in command mode.
-fn channel_registers(bench: &impl Bench, c: Converter) -> Vec<u8> {
+fn channel_registers(bench: &impl OneConverter, c: Converter) -> Vec<u8> {
     let bytes = [&[0x25, 0x07], &[0x00; 8][..]].concat();
     send(bench, c, &bytes).0[2..].to_vec()
 }
 
-pub fn no2_read_back(bench: &impl Bench) {
+pub fn no2_read_back(bench: &impl OneConverter) {
     for id in [0x1E, 0x3E, 0xFE] {
         let c = after(bench, bench.power_up(id).1, &[0x11]);
         assert_eq!(channel_registers(bench, c), [0x61; 8]);
@@ -1388,7 +1396,7 @@ pub fn no2_read_back(bench: &impl Bench) {
     assert_eq!(bench.power_up(0x3D).1.registers[5..13], [0x61; 8]);
 }
 
-pub fn no2_reset_is_power_up(bench: &impl Bench) {
+pub fn no2_reset_is_power_up(bench: &impl OneConverter) {
     for data in [0x00, 0x60, 0x9E, 0xFF] {
         let write = [&[0x45, 0x07], &[data; 8][..]].concat();
         let written = after(bench, sampled(bench), &write);
@@ -1402,7 +1410,7 @@ pub fn no2_reset_is_power_up(bench: &impl Bench) {
     }
 }
 
-pub fn no2_fields_of_a_fresh_channel(bench: &impl Bench) {
+pub fn no2_fields_of_a_fresh_channel(bench: &impl OneConverter) {
     let c = command_mode(bench);
     for channel in 1..=8 {
         for (field, value) in (1..).zip([0, 6, 0, 1, 0, 0, 0, 0, 0]) {
@@ -1415,7 +1423,7 @@ pub fn no2_fields_of_a_fresh_channel(bench: &impl Bench) {
     }
 }
 
-pub fn no2_plans(bench: &impl Bench) {
+pub fn no2_plans(bench: &impl OneConverter) {
     let c = command_mode(bench);
     let rows = [
         (1, 1, 0xE1),
@@ -1433,7 +1441,7 @@ pub fn no2_plans(bench: &impl Bench) {
     }
 }
 
-pub fn no2_program(bench: &impl Bench) {
+pub fn no2_program(bench: &impl OneConverter) {
     for channel in 1..=8 {
         let text = bench.console(&[0x01, 0x04, channel, 0x00, 0x01, channel, 0x01]);
         let command = 0x44 + channel;
@@ -1461,20 +1469,20 @@ fn frame_full_of(bytes: [u8; 3]) -> [u8; 27] {
 }
 
 /// Powers a channel of party 0 down (1) or up (0).
-fn powered(bench: &impl Bench, c: Converter, channel: u32, down: u32) -> Converter {
+fn powered(bench: &impl OneConverter, c: Converter, channel: u32, down: u32) -> Converter {
     let (refusal, _, next) = plan(bench, c, [0, 1, channel, down], 3);
     assert_eq!(refusal, 0, "power-down field");
     next
 }
 
 /// Code and rail of a channel of party 0, lead-off bits off.
-fn shown(bench: &impl Bench, c: Converter, channel: u32, frame: &[u8]) -> (i32, Rail) {
+fn shown(bench: &impl OneConverter, c: Converter, channel: u32, frame: &[u8]) -> (i32, Rail) {
     let (refusal, code, rail, p, n) = bench.read_channel(c, 0, channel, frame);
     assert_eq!((refusal, p, n), (0, false, false), "channel {channel}");
     (code, rail)
 }
 
-pub fn no3_rails(bench: &impl Bench) {
+pub fn no3_rails(bench: &impl OneConverter) {
     let rows = [
         (TOP, 8_388_607, Rail::Highest),
         ([0x7F, 0xFF, 0xFE], 8_388_606, Rail::Neither),
@@ -1496,7 +1504,7 @@ pub fn no3_rails(bench: &impl Bench) {
     }
 }
 
-pub fn no3_powered_down_before_the_frame(bench: &impl Bench) {
+pub fn no3_powered_down_before_the_frame(bench: &impl OneConverter) {
     let running = after(bench, command_mode(bench), &[0x08]);
     for (code, rail) in ENDS {
         for down in 1..=8 {
@@ -1519,7 +1527,7 @@ pub fn no3_powered_down_before_the_frame(bench: &impl Bench) {
     }
 }
 
-pub fn no3_powered_down_after_the_frame(bench: &impl Bench) {
+pub fn no3_powered_down_after_the_frame(bench: &impl OneConverter) {
     let running = after(bench, command_mode(bench), &[0x08]);
     for (code, rail) in ENDS {
         let c = take(bench, running, &[code; 8], 0, 0);
@@ -1533,7 +1541,7 @@ pub fn no3_powered_down_after_the_frame(bench: &impl Bench) {
     }
 }
 
-pub fn no3_refusals_are_neither(bench: &impl Bench) {
+pub fn no3_refusals_are_neither(bench: &impl OneConverter) {
     let c = granted(bench, fresh(bench), 1, 3);
     for bytes in [TOP, BOTTOM] {
         let good = frame_full_of(bytes);
@@ -1637,7 +1645,7 @@ macro_rules! for_each_figure {
     };
 }
 
-/// Defines one `#[test]` for each figure, on the bench given.
+/// Defines one `#[test]` for each figure, on the implementation given.
 #[macro_export]
 macro_rules! figure_tests {
     ($bench:expr) => {
@@ -1660,6 +1668,6 @@ macro_rules! run_all {
 }
 
 /// All figures; panics at the first mismatch.
-pub fn all(bench: &impl Bench) {
+pub fn all(bench: &impl OneConverter) {
     for_each_figure! { run_all, bench }
 }

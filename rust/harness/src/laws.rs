@@ -1,13 +1,14 @@
-//! Laws that tie a bench's answers to each other, checked on random calls.
+//! Laws that tie an implementation's answers to each other, checked on random
+//! calls.
 
 use std::ops::Range;
 
 use crate::calls::{self, Call, Outcome, NUMBERS};
-use crate::compare::Driver;
+use crate::compare::{Driver, Sessions};
 use crate::random::Random;
-use crate::{Bench, Converter, Phase, Rail, Request, WHOLE_CHANNEL};
+use crate::{Converter, OneConverter, Phase, Rail, Request, WHOLE_CHANNEL};
 
-fn ensure(condition: bool, law: &str) -> Result<(), String> {
+pub(crate) fn ensure(condition: bool, law: &str) -> Result<(), String> {
     if condition {
         Ok(())
     } else {
@@ -16,7 +17,11 @@ fn ensure(condition: bool, law: &str) -> Result<(), String> {
 }
 
 /// Sends bytes; `None` if one is refused.
-pub(crate) fn send(bench: &impl Bench, c: Converter, bytes: &[u8]) -> Option<(Vec<u8>, Converter)> {
+pub(crate) fn send(
+    bench: &impl OneConverter,
+    c: Converter,
+    bytes: &[u8],
+) -> Option<(Vec<u8>, Converter)> {
     let mut state = c;
     let mut sent = Vec::with_capacity(bytes.len());
     for &byte in bytes {
@@ -57,7 +62,7 @@ fn refused_alone(given: &Converter, call: &Call, outcome: &Outcome) -> Result<()
 }
 
 fn plan_law(
-    bench: &impl Bench,
+    bench: &impl OneConverter,
     given: &Converter,
     outcome: &Outcome,
     tx: &[u8],
@@ -80,7 +85,7 @@ fn plan_law(
 
 /// A whole channel's request does what one request for each field does.
 fn whole_channel_law(
-    bench: &impl Bench,
+    bench: &impl OneConverter,
     given: &Converter,
     after: &Converter,
     party: u32,
@@ -113,7 +118,7 @@ fn with_other_unused(random: &mut Random, request: &Request) -> Request {
 
 /// Values that a request's field leaves unused change no answer.
 fn unused_law(
-    bench: &impl Bench,
+    bench: &impl OneConverter,
     random: &mut Random,
     given: &Converter,
     call: &Call,
@@ -139,7 +144,7 @@ fn as_read(request: &Request) -> Request {
     read
 }
 
-fn request_laws(bench: &impl Bench, call: &Call, outcome: &Outcome) -> Result<(), String> {
+fn request_laws(bench: &impl OneConverter, call: &Call, outcome: &Outcome) -> Result<(), String> {
     match call {
         Call::RequestRead { bytes } => {
             let (_, request, used) = bench.request_read(bytes);
@@ -181,7 +186,7 @@ pub(crate) fn rail_of(code: i32) -> Rail {
 /// Reading the sample's own frame gives its codes with their rails, and its
 /// comparator bits.
 fn sample_law(
-    bench: &impl Bench,
+    bench: &impl OneConverter,
     given: &Converter,
     after: &Converter,
     codes: &[i32],
@@ -224,7 +229,7 @@ fn part_of(refusal: u8, channel: u32) -> Range<usize> {
 }
 
 /// The frame with all else changed that a channel's reading may not look at.
-fn changed_around(random: &mut Random, channel: u32, frame: &[u8]) -> Vec<u8> {
+pub(crate) fn changed_around(random: &mut Random, channel: u32, frame: &[u8]) -> Vec<u8> {
     let mut other = frame.to_vec();
     random.fill(&mut other);
     if random.flag() {
@@ -239,7 +244,7 @@ fn changed_around(random: &mut Random, channel: u32, frame: &[u8]) -> Vec<u8> {
 
 /// A reading depends on the owners and the channel's own part of the frame.
 fn reading_law(
-    bench: &impl Bench,
+    bench: &impl OneConverter,
     random: &mut Random,
     c: &Converter,
     call: &Call,
@@ -297,7 +302,7 @@ fn kept_bits(channel: u32, index: usize) -> u8 {
 }
 
 /// 32 zero bytes end any command, and no later zero byte opens one.
-fn waiting_law(bench: &impl Bench, c: &Converter) -> Result<(), String> {
+fn waiting_law(bench: &impl OneConverter, c: &Converter) -> Result<(), String> {
     let mut state = *c;
     let mut waiting = state.phase == Phase::Waiting;
     for _ in 0..34 {
@@ -318,7 +323,7 @@ fn waiting_law(bench: &impl Bench, c: &Converter) -> Result<(), String> {
 }
 
 fn check_call(
-    bench: &impl Bench,
+    bench: &impl OneConverter,
     random: &mut Random,
     given: &Converter,
     call: &Call,
@@ -359,19 +364,33 @@ fn check_call(
     }
 }
 
-/// Makes `calls` random calls and checks every law that applies to each.
-pub fn check(bench: &impl Bench, calls: u64, seed: u64) -> Result<(), String> {
-    let mut driver = Driver::new(seed);
+/// Makes `calls` calls and checks each.
+pub(crate) fn hold<D: Sessions>(
+    driver: &mut D,
+    (calls, seed): (u64, u64),
+    perform: impl Fn(D::State, &D::Call) -> Outcome<D::State>,
+    check: impl Fn(&mut Random, &D::State, &D::Call, &Outcome<D::State>) -> Result<(), String>,
+) -> Result<(), String> {
     let mut state = None;
     for index in 0..calls {
         let (fresh, call) = driver.next(state.as_ref());
         let given = fresh.or(state).expect("the first call begins a session");
-        let outcome = calls::perform(bench, given, &call);
-        check_call(bench, driver.random(), &given, &call, &outcome).map_err(|law| {
+        let outcome = perform(given, &call);
+        check(driver.random(), &given, &call, &outcome).map_err(|law| {
             format!("seed {seed:#x}, call {index}: broken law: {law}\n {call:x?}\n on {given:x?}\n gave {outcome:x?}")
         })?;
         driver.heed(&outcome);
         state = Some(outcome.state);
     }
     Ok(())
+}
+
+/// Makes `calls` random calls and checks every law that applies to each.
+pub fn check(bench: &impl OneConverter, calls: u64, seed: u64) -> Result<(), String> {
+    hold(
+        &mut Driver::new(seed),
+        (calls, seed),
+        |state, call| calls::perform(bench, state, call),
+        |random, given, call, outcome| check_call(bench, random, given, call, outcome),
+    )
 }

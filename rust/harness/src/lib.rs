@@ -1,8 +1,10 @@
-//! Tests for anything that claims to be the bench: random comparison of two
-//! implementations, laws, isolation between parties, and fixed figures.
+//! Tests for anything that claims to be the bench's software: random
+//! comparison of two implementations, laws, isolation between parties, and
+//! fixed figures; for one converter, and for the four of a bench (`bench`).
 
 #![forbid(unsafe_code)]
 
+pub mod bench;
 pub mod calls;
 pub mod cells;
 pub mod compare;
@@ -16,12 +18,14 @@ pub mod states;
 
 use std::ops::Range;
 
+pub use bench::FourConverters;
 pub use compare::{compare, Disagreement, Stats};
-pub use model::{Converter, Direction, Phase, Rail, Request, Transfer, WHOLE_CHANNEL};
+pub use model::{Bench, Converter, Direction, Phase, Rail, Request, Transfer, WHOLE_CHANNEL};
 
-/// The entry points of a bench. Each answer begins with its refusal number,
-/// except `channel_bytes` (a place in the frame) and `console` (its output).
-pub trait Bench {
+/// The entry points for one converter, for requests and for the program. Each
+/// answer begins with its refusal number, except `channel_bytes` (a place in
+/// the frame) and `console` (its output).
+pub trait OneConverter {
     /// (refusal, state)
     fn power_up(&self, id: u8) -> (u8, Converter);
     /// (refusal, byte out, state)
@@ -59,20 +63,20 @@ pub trait Bench {
     fn console(&self, input: &[u8]) -> Vec<u8>;
 }
 
-/// All checks on one bench, the comparison with the model last; panics at
-/// the first fault.
-pub fn check_all(bench: &impl Bench, calls: u64, seed: u64) -> Stats {
+/// All checks on one implementation, the comparison with the model last;
+/// panics at the first fault.
+pub fn check_all(bench: &impl OneConverter, calls: u64, seed: u64) -> Stats {
     figures::all(bench);
     laws::check(bench, calls / 4, seed).unwrap_or_else(|fault| panic!("{fault}"));
     isolation::check(bench, calls / 50, seed).unwrap_or_else(|fault| panic!("{fault}"));
     compare(&Model, bench, calls, seed).unwrap_or_else(|found| panic!("{found}"))
 }
 
-/// The model of documents 01 and 02 as a bench.
+/// The model of documents 01 and 02 as an implementation.
 #[derive(Clone, Copy, Debug)]
 pub struct Model;
 
-impl Bench for Model {
+impl OneConverter for Model {
     fn power_up(&self, id: u8) -> (u8, Converter) {
         model::power_up(id)
     }

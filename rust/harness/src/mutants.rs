@@ -1,10 +1,10 @@
-//! Wrong benches: the model with one thing spoilt in each.
+//! Wrong implementations: the model with one thing spoilt in each.
 
 use std::cell::Cell;
 use std::ops::Range;
 
 use crate::laws::rail_of;
-use crate::{cells, Bench, Converter, Model, Phase, Rail, Request, Transfer, WHOLE_CHANNEL};
+use crate::{cells, Converter, Model, OneConverter, Phase, Rail, Request, Transfer, WHOLE_CHANNEL};
 
 #[derive(Clone, Copy, Debug, PartialEq, Eq)]
 pub enum Fault {
@@ -354,7 +354,7 @@ impl Mutant {
     }
 }
 
-impl Bench for Mutant {
+impl OneConverter for Mutant {
     fn power_up(&self, id: u8) -> (u8, Converter) {
         let (refusal, mut c) = Model.power_up(id);
         match (self.fault, refusal) {

@@ -2,7 +2,7 @@
 
 use crate::calls::{self, Script};
 use crate::random::Random;
-use crate::{Bench, Converter, Direction, Phase, Transfer};
+use crate::{Converter, Direction, OneConverter, Phase, Transfer};
 
 fn direction(random: &mut Random) -> Direction {
     if random.flag() {
@@ -105,8 +105,8 @@ pub fn valid(random: &mut Random) -> Converter {
     c
 }
 
-/// A state the bench itself arrives at from power-up.
-pub fn reachable(bench: &impl Bench, random: &mut Random) -> Converter {
+/// A state the implementation itself arrives at from power-up.
+pub fn reachable(bench: &impl OneConverter, random: &mut Random) -> Converter {
     let mut c = bench.power_up(legal_id(random)).1;
     let mut script = Script::default();
     for _ in 0..random.between(0, 120) {

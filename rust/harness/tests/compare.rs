@@ -5,7 +5,7 @@ use std::time::Instant;
 
 use harness::random::Random;
 use harness::states::{self, DAMAGES};
-use harness::{compare, laws, settings, Bench, Model};
+use harness::{compare, laws, settings, Model, OneConverter};
 
 /// Every answer each entry point can give, by refusal number.
 fn possible() -> BTreeMap<&'static str, Vec<Option<u8>>> {

@@ -1,4 +1,4 @@
-//! Demand 3 on the model, and on a bench that breaks it.
+//! Demand 3 on the model, and on wrong models that break it.
 
 use harness::mutants::{Fault, Mutant};
 use harness::{isolation, settings, Model};
@@ -16,7 +16,7 @@ fn parties_do_not_disturb_each_other() {
 }
 
 #[test]
-fn disturbing_benches_are_noticed() {
+fn disturbing_models_are_noticed() {
     for fault in [
         Fault::SharedRegisterFromPowerUp,
         Fault::ValueBeforeOwner,

@@ -1,4 +1,4 @@
-//! The comparison notices every wrong bench, and so do the figures; the laws
+//! The comparison notices every wrong model, and so do the figures; the laws
 //! notice those that contradict themselves.
 
 use harness::mutants::{self, Fault, Mutant};

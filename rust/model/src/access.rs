@@ -28,6 +28,13 @@ pub fn grant(c: Converter, caller: u32, receiver: u32, channel: u32) -> (u8, Con
     }
 }
 
+/// The frame, if it is one.
+pub(crate) fn check_frame(frame: &[u8]) -> Result<&[u8; FRAME_LENGTH], Refusal> {
+    let frame: &[u8; FRAME_LENGTH] = frame.try_into().map_err(|_| Refusal::BadFrame)?;
+    ensure(frame[0] >> 4 == 0b1100, Refusal::BadFrame)?;
+    Ok(frame)
+}
+
 /// The channel number and the frame, once the party may read it.
 fn accept_reading<'a>(
     c: &Converter,
@@ -39,13 +46,20 @@ fn accept_reading<'a>(
     check_party(party)?;
     let channel = check_channel(channel)?;
     ensure(c.owner(channel) == party, Refusal::NotOwner)?;
-    let frame: &[u8; FRAME_LENGTH] = frame.try_into().map_err(|_| Refusal::BadFrame)?;
-    ensure(frame[0] >> 4 == 0b1100, Refusal::BadFrame)?;
-    Ok((channel, frame))
+    Ok((channel, check_frame(frame)?))
 }
 
-fn bytes_of(channel: usize) -> Range<usize> {
+/// Where a channel 1 to 8 lies in a frame.
+pub(crate) fn bytes_of(channel: usize) -> Range<usize> {
     3 * channel..3 * channel + 3
+}
+
+/// What a frame says of a channel 1 to 8: (code, rail, P bit, N bit).
+pub(crate) fn shown(frame: &[u8; FRAME_LENGTH], channel: usize) -> (i32, Rail, bool, bool) {
+    let at = 3 * channel;
+    let (code, rail) = frame::decode([frame[at], frame[at + 1], frame[at + 2]]);
+    let (p, n) = frame::lead_off(frame, channel);
+    (code, rail, p, n)
 }
 
 /// A party's reading of its channel: (refusal, code, rail, P bit, N bit).
@@ -57,9 +71,7 @@ pub fn read_channel(
 ) -> (u8, i32, Rail, bool, bool) {
     match accept_reading(&c, party, channel, frame) {
         Ok((channel, frame)) => {
-            let at = 3 * channel;
-            let (code, rail) = frame::decode([frame[at], frame[at + 1], frame[at + 2]]);
-            let (p, n) = frame::lead_off(frame, channel);
+            let (code, rail, p, n) = shown(frame, channel);
             (0, code, rail, p, n)
         }
         Err(refusal) => (refusal.number(), 0, Rail::Neither, false, false),

@@ -86,7 +86,8 @@ fn channel_field(number: u32, channel: usize) -> Field {
     }
 }
 
-fn channel_fields(number: u32, channel: usize) -> Vec<Field> {
+/// What a channel field's number sets of a channel 1 to 8.
+pub(crate) fn of_channel(number: u32, channel: usize) -> Vec<Field> {
     match number {
         WHOLE_CHANNEL => (1..=CHANNEL_FIELDS as u32)
             .map(|each| channel_field(each, channel))
@@ -95,18 +96,23 @@ fn channel_fields(number: u32, channel: usize) -> Vec<Field> {
     }
 }
 
+/// What a shared field's number, 10 to 26, sets.
+pub(crate) fn shared(number: u32) -> Vec<Field> {
+    vec![SHARED[(number - FIRST_SHARED) as usize]]
+}
+
 /// Finds a setting; refuses an unknown field, then a channel that does not fit.
 pub fn find(c: &Converter, number: u32, channel: u32) -> Result<Setting, Refusal> {
     if per_channel(number).ok_or(Refusal::UnknownField)? {
         let channel = check_channel(channel)?;
         Ok(Setting {
-            fields: channel_fields(number, channel),
+            fields: of_channel(number, channel),
             owner: c.owner(channel),
         })
     } else {
         ensure(channel == 0, Refusal::WrongChannel)?;
         Ok(Setting {
-            fields: vec![SHARED[(number - FIRST_SHARED) as usize]],
+            fields: shared(number),
             owner: ADMINISTRATOR,
         })
     }

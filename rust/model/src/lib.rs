@@ -1,6 +1,7 @@
-//! Plain Rust model of a shared EEG test bench around one ADS1299.
+//! Plain Rust model of a shared EEG test bench: of one ADS1299, and of the
+//! four that a bench has (`bench`).
 //!
-//! Written from the text of document 01 and of document 02's No. 1 to No. 3
+//! Written from the text of document 01 and of document 02's No. 1 to No. 4
 //! alone. Their words map to these terms: keeper = administrator, workshop =
 //! tenant, slip = setting request, sheet = transmit buffer.
 //!
@@ -10,6 +11,7 @@
 #![forbid(unsafe_code)]
 
 pub mod access;
+pub mod bench;
 pub mod console;
 pub mod fields;
 pub mod frame;
@@ -21,6 +23,7 @@ pub mod state;
 pub mod step;
 
 pub use access::{channel_bytes, grant, read_channel};
+pub use bench::Bench;
 pub use console::console;
 pub use frame::{sample, Rail};
 pub use planner::plan;

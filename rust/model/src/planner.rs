@@ -15,18 +15,21 @@ const RDATAC: u8 = 0x10;
 const SDATAC: u8 = 0x11;
 const WREG: u8 = 0x40;
 
+/// Whether each field may hold its value of the request.
+pub(crate) fn admitted(fields: &[Field], request: &Request) -> bool {
+    fields
+        .iter()
+        .zip(request.values)
+        .all(|(field, value)| field.admits(value))
+}
+
 /// The fields a request sets, once everything but the room is judged.
 fn accept(c: &Converter, party: u32, request: &Request) -> Result<Vec<Field>, Refusal> {
     c.check()?;
     check_party(party)?;
     let setting = fields::find(c, request.field, request.channel)?;
     ensure(setting.owner == party, Refusal::NotOwner)?;
-    let admitted = setting
-        .fields
-        .iter()
-        .zip(request.values)
-        .all(|(field, value)| field.admits(value));
-    ensure(admitted, Refusal::BadValue)?;
+    ensure(admitted(&setting.fields, request), Refusal::BadValue)?;
     ensure(c.phase == Phase::Waiting, Refusal::NotWaiting)?;
     Ok(setting.fields)
 }
@@ -70,6 +73,25 @@ fn bytes_for(c: &Converter, request: &Request, fields: &[Field]) -> Vec<u8> {
     bytes
 }
 
+/// Writes an accepted request's plan from place `at` on, where there is room:
+/// (plan length, state after the plan).
+pub(crate) fn carry_out(
+    c: &Converter,
+    request: &Request,
+    fields: &[Field],
+    tx: &mut [u8],
+    at: usize,
+) -> Result<(usize, Converter), Refusal> {
+    let bytes = bytes_for(c, request, fields);
+    let target = tx
+        .get_mut(at..)
+        .and_then(|rest| rest.get_mut(..bytes.len()))
+        .ok_or(Refusal::NoRoom)?;
+    target.copy_from_slice(&bytes);
+    let after = bytes.iter().fold(*c, |state, &byte| step(state, byte).2);
+    Ok((bytes.len(), after))
+}
+
 /// Plans a request into the transmit buffer from place `at` on:
 /// (refusal, plan length, state after the plan).
 pub fn plan(
@@ -79,17 +101,10 @@ pub fn plan(
     tx: &mut [u8],
     at: usize,
 ) -> (u8, usize, Converter) {
-    let bytes = match accept(&c, party, &request) {
-        Ok(fields) => bytes_for(&c, &request, &fields),
-        Err(refusal) => return (refusal.number(), 0, c),
-    };
-    let Some(target) = tx
-        .get_mut(at..)
-        .and_then(|rest| rest.get_mut(..bytes.len()))
-    else {
-        return (Refusal::NoRoom.number(), 0, c);
-    };
-    target.copy_from_slice(&bytes);
-    let after = bytes.iter().fold(c, |state, &byte| step(state, byte).2);
-    (0, bytes.len(), after)
+    let planned =
+        accept(&c, party, &request).and_then(|fields| carry_out(&c, &request, &fields, tx, at));
+    match planned {
+        Ok((length, after)) => (0, length, after),
+        Err(refusal) => (refusal.number(), 0, c),
+    }
 }

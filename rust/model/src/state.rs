@@ -95,7 +95,7 @@ impl Converter {
     }
 }
 
-fn id_is_legal(id: u8) -> bool {
+pub(crate) fn id_is_legal(id: u8) -> bool {
     id & 0x1F == 0x1E
 }
 

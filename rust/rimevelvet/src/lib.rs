@@ -1,10 +1,12 @@
-//! Safe wrappers over the proved library (include/rimevelvet.h).
+//! Safe wrappers over the proved library (include/rimevelvet.h): for the four converters of a bench in [`mod@bench`],
+//! for one converter here.
 //!
 //! A state goes in by value and comes back by value; nothing is kept inside. Every answer begins with its refusal
 //! number, 0 for success; a refused call hands back the state and the buffers as they were given, and 0 or
 //! [`Rail::Neither`] for all else. Any bytes may be given as a [`State`]: those that stand for no state are refused by
 //! 13.
 
+pub mod bench;
 mod ffi;
 
 use std::ops::Range;
@@ -48,8 +50,20 @@ pub struct Reading {
     pub n: u8,
 }
 
+impl Reading {
+    fn from_library(read: ffi::Reading) -> Reading {
+        Reading {
+            refusal: read.refusal,
+            code: read.code,
+            rail: Rail::from_number(read.rail),
+            p: read.p,
+            n: read.n,
+        }
+    }
+}
+
 impl Request {
-    /// One field of a channel, or a shared field with channel 0.
+    /// One field of a channel, or a shared field with channel 0; for a bench by its own numbers ([`mod@bench`]).
     pub fn one(field: u32, channel: u32, value: u32) -> Request {
         let mut values = [0; VALUES];
         values[0] = value;
@@ -106,13 +120,7 @@ pub fn read_channel(state: State, party: u32, channel: u32, frame: &[u8]) -> Rea
     // SAFETY: the library reads `frame` alone, within its length.
     let read =
         unsafe { ffi::rimevelvet_read_channel(state, party, channel, frame.as_ptr(), frame.len()) };
-    Reading {
-        refusal: read.refusal,
-        code: read.code,
-        rail: Rail::from_number(read.rail),
-        p: read.p,
-        n: read.n,
-    }
+    Reading::from_library(read)
 }
 
 /// Where a channel's three bytes lie in the frame, for its owner; an empty range where a reading is refused.

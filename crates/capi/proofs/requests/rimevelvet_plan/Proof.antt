@@ -16,7 +16,7 @@ rimevelvet-plan-spec =
     (λ c.
     let t = c .before .before .before in
     let b = t .before .before in (
-      simp (c .flatten .ensures, ← b .before .before .is-state .ensures, b .before .if1 .taken, ← b .state-of .ensures, ← t .plan-borrowed .ensures .0),
-      simp (← b .before .before .is-state .ensures, b .before .if1 .taken, ← b .state-of .ensures, ← t .plan-borrowed .ensures .1),
+      simp (c .flatten .ensures, ← b .before .before .is-state .ensures, b .before .if1 .taken, ← b .state-of .ensures, ← t .plan .ensures .0 .0),
+      simp (← b .before .before .is-state .ensures, b .before .if1 .taken, ← b .state-of .ensures, ← t .plan .ensures .0 .1),
     ))
     (λ c. (simp (← c .before .is-state .ensures, c .if1 .left), simp (← c .before .is-state .ensures, c .if1 .left))))

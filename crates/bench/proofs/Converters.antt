@@ -1,0 +1,81 @@
+-- One converter of the bench replaced: the others, the whole, and refusal 13.
+use Prim.Native.Nat.{ℕ, zero, suc, _<_}
+use mathlib.Core.Path.{_≡_, refl, ap}
+use mathlib.Core.Bool.{Bool, true}
+use mathlib.Core.List.{List, [], _∷_}
+use native.Mathlib.Omega.{arith}
+use borrow.Author.Tests.{eqb-true, eqb-false}
+use lib.Dec.{eqb}
+use lib.ListN.{length, set, length-set}
+use lib.Seq.{getD-set-same, getD-set-other, set-getD}
+use Rattle.cases.proofs.Below.{below-at}
+use Rattle.cases.proofs.Cases.{split, and-both}
+use Rattle.ads1299.specs.declared.Converter.{Converter}
+use Rattle.ads1299.specs.Formed.{Formed}
+use Rattle.ads1299.specs.Validity.{valid}
+use Rattle.lines.specs.Lines.{converterCount, everyConverter}
+use Rattle.bench.specs.declared.Bench.{Bench}
+use Rattle.bench.specs.Bench.{blank, at, withConverter, validBench}
+use Rattle.bench.specs.Formed.{FormedBench}
+
+-- a test that every converter's number passes
+pub every-passes : (test : ℕ → Bool) → everyConverter test ≡ true → (k : ℕ) → k < converterCount → test k ≡ true
+every-passes test e =
+    let a = and-both (test 0) _ e in
+    let b = and-both (test 1) _ (a .1) in
+    let c = and-both (test 2) _ (b .1) in
+    let d = and-both (test 3) _ (c .1) in
+    below-at 4 test (rw (a .0, b .0, c .0, d .0))
+
+pub passes-every : (test : ℕ → Bool) → ((k : ℕ) → k < converterCount → test k ≡ true) → everyConverter test ≡ true
+passes-every test e = rw (e 0 (omega arith), e 1 (omega arith), e 2 (omega arith), e 3 (omega arith))
+
+set-set : (l : List Converter) (k : ℕ) (c d : Converter) → set (set l k c) k d ≡ set l k d
+set-set [] k c d = refl
+set-set (x ∷ l) zero c d = refl
+set-set (x ∷ l) (suc k) c d = ap (λ (rest : List Converter). x ∷ rest) (set-set l k c d)
+
+module _ (b : Bench) (k : ℕ) where
+  -- replaced twice, and by itself
+  pub with-again : (c d : Converter) → withConverter (withConverter b k c) k d ≡ withConverter b k d
+  with-again c d = ap (λ (l : List Converter). record { converters = l }) (set-set (b .converters) k c d)
+
+  pub with-same : withConverter b k (at b k) ≡ b
+  with-same = ap (λ (l : List Converter). record { converters = l }) (set-getD (b .converters) k blank)
+
+  pub at-other : (c : Converter) (j : ℕ) → (j ≡ k → ⊥) → at (withConverter b k c) j ≡ at b j
+  at-other c j ne = getD-set-other (b .converters) k j c blank ne
+
+  module _ (size : length (b .converters) ≡ converterCount) (h : k < converterCount) where
+    pub at-same : (c : Converter) → at (withConverter b k c) k ≡ c
+    at-same c = getD-set-same (b .converters) k c blank (omega arith)
+
+    -- what holds of each converter, after one is replaced
+    pub each-with : (P : ℕ → Converter → Type 0) (c : Converter) → P k c → ((j : ℕ) → j < converterCount → (j ≡ k → ⊥) → P j (at b j))
+        → (j : ℕ) → j < converterCount → P j (at (withConverter b k c) j)
+    each-with P c own others j lt =
+        split (eqb j k)
+        (λ q. rw (eqb-true j k q, at-same c) own)
+        (λ q. rw (at-other c j (eqb-false j k q)) (others j lt (eqb-false j k q)))
+
+-- all four pass 13, or one does not
+pub each-valid : (b : Bench) → validBench b ≡ true → (k : ℕ) → k < converterCount → valid (at b k) ≡ true
+unfolding validBench
+each-valid b e = every-passes (λ k. valid (at b k)) e
+
+pub all-valid : (b : Bench) → ((k : ℕ) → k < converterCount → valid (at b k) ≡ true) → validBench b ≡ true
+unfolding validBench
+all-valid b e = passes-every (λ k. valid (at b k)) e
+
+module _ (b : Bench) (k : ℕ) (h : k < converterCount) where
+  pub with-valid : length (b .converters) ≡ converterCount → (c : Converter) → validBench b ≡ true → valid c ≡ true
+      → validBench (withConverter b k c) ≡ true
+  with-valid size c e v =
+      all-valid (withConverter b k c) (each-with b k size h (λ j (d : Converter). valid d ≡ true) c v (λ j lt ne. each-valid b e j lt))
+
+  pub with-formed : FormedBench b → (c : Converter) → Formed c → FormedBench (withConverter b k c)
+  with-formed f c g =
+      record {
+        size = rw (length-set (b .converters) k c) (f .size);
+        each = each-with b k (f .size) h (λ j (d : Converter). Formed d) c g (λ j lt ne. f .each j lt);
+      }

@@ -1,0 +1,1 @@
+// Theorems only: demand 2 on the bench.

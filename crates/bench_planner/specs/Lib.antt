@@ -1,0 +1,5 @@
+pub mod Local
+pub mod Planned
+pub mod Buffer
+pub mod Fields
+pub mod Refusals
