@@ -9,7 +9,7 @@
  * exactly as they were given. Where a call has several refusals, they are tried in the order named.
  *
  * A pointer points to as many elements as the length after it says, and is never NULL, even where the length is 0.
- * Party, field, channel and values may be any number; those that count are judged whole.
+ * Party, field, channel, values and a converter's number may be any number; those that count are judged whole.
  */
 #ifndef RIMEVELVET_H
 #define RIMEVELVET_H
@@ -244,8 +244,9 @@ rimevelvet_planned rimevelvet_plan(rimevelvet_converter state, uint32_t party, r
 /*
  * A bench: four converters on four select lines, with numbers from 0 to 3. Converter k has channels 8 * k + 1 to 8 * k + 8, so that
  * channel 9 is the first of converter 1, and 32 is the last of all. A shared field goes with the number of a converter as a whole: 0
- * for converter 0, then 33, 34 and 35. Refusal 5 goes by these ranges, and covers a converter's number above 3 and, where a frame is read, one that is not the
- * channel's. Refusal 13 looks at all four converters, 8 and 9 at the one that the request names.
+ * for converter 0, then 33, 34 and 35. Refusal 5 is for any other channel, for a converter's number above 3 and, where a frame is
+ * read, for a channel of another converter. A state that 13 refuses in any of the four refuses the bench; for 8 and 9 only the
+ * converter of the request counts.
  *
  * There is no selected converter to be kept: each byte, select rise, sample and frame comes with its converter's number.
  */
@@ -295,7 +296,7 @@ RIMEVELVET_ASSERT(offsetof(rimevelvet_bench_planned, next) == 16, "the bench aft
 
 /*
  * A fresh bench with these IDs, each converter as rimevelvet_power_up gives it. `ids` points to RIMEVELVET_CONVERTERS bytes.
- * Refusal: 13 (an ID's low five bits are not 1Eh); then all four come back in the power-up state with ID 00.
+ * Refusal: 13 (the low five bits of an ID are not 1Eh); then no ID is kept, and every converter is in the power-up state with ID 00.
  */
 rimevelvet_bench_powered_up rimevelvet_bench_power_up(const uint8_t *ids);
 
@@ -306,7 +307,7 @@ rimevelvet_bench_powered_up rimevelvet_bench_power_up(const uint8_t *ids);
 rimevelvet_bench_stepped rimevelvet_bench_step(rimevelvet_bench bench, uint32_t number, uint8_t byte);
 
 /*
- * The select line of converter `number` rises. Going from one converter to another is no such rise.
+ * The select line of converter `number` rises. Sending the next byte to another converter raises no line.
  * Refusals: 13, 5; then the same bench comes back.
  */
 rimevelvet_bench_moved rimevelvet_bench_deselect(rimevelvet_bench bench, uint32_t number);

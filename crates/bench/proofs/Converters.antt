@@ -11,12 +11,10 @@ use lib.Seq.{getD-set-same, getD-set-other, set-getD}
 use Rattle.cases.proofs.Below.{below-at}
 use Rattle.cases.proofs.Cases.{split, and-both}
 use Rattle.ads1299.specs.declared.Converter.{Converter}
-use Rattle.ads1299.specs.Formed.{Formed}
 use Rattle.ads1299.specs.Validity.{valid}
 use Rattle.lines.specs.Lines.{converterCount, everyConverter}
 use Rattle.bench.specs.declared.Bench.{Bench}
 use Rattle.bench.specs.Bench.{blank, at, withConverter, validBench}
-use Rattle.bench.specs.Formed.{FormedBench}
 
 -- a test that every converter's number passes
 pub every-passes : (test : ℕ → Bool) → everyConverter test ≡ true → (k : ℕ) → k < converterCount → test k ≡ true
@@ -72,10 +70,3 @@ module _ (b : Bench) (k : ℕ) (h : k < converterCount) where
       → validBench (withConverter b k c) ≡ true
   with-valid size c e v =
       all-valid (withConverter b k c) (each-with b k size h (λ j (d : Converter). valid d ≡ true) c v (λ j lt ne. each-valid b e j lt))
-
-  pub with-formed : FormedBench b → (c : Converter) → Formed c → FormedBench (withConverter b k c)
-  with-formed f c g =
-      record {
-        size = rw (length-set (b .converters) k c) (f .size);
-        each = each-with b k (f .size) h (λ j (d : Converter). Formed d) c g (λ j lt ne. f .each j lt);
-      }

@@ -16,7 +16,7 @@ use Rattle.lines.specs.Lines.{lastChannel, converterOf, localChannel}
 use Rattle.lines.specs.Ranges.{isBenchChannel}
 use Rattle.bench.specs.declared.Bench.{Bench}
 use Rattle.bench.specs.Bench.{blank, at, benchOwners}
-use Rattle.bench.specs.Formed.{FormedBench}
+use Rattle.bench.specs.Claims.{OwnerAt}
 
 abbrev ownersOf : List Converter → List ℕ
 ownersOf l = flatten (map (λ (c : Converter). c .owners) l)
@@ -35,8 +35,7 @@ eights (c ∷ l) whole (suc k) i hk hi =
     ∙ getD-append-add (c .owners) (ownersOf l) (channelCount * k + i) 0
     ∙ eights l (λ j lt. whole (suc j) (omega (arith, lt))) k i (omega (arith, hk)) hi
 
-pub owner-at : (b : Bench) → FormedBench b → (n : ℕ) → isBenchChannel n ≡ true
-    → ownerOf (benchOwners b) n ≡ ownerOf (at b (converterOf n) .owners) (localChannel n)
+pub owner-at : OwnerAt
 unfolding ownerOf converterOf localChannel
 owner-at b f n e =
     let t = and-both (leb 1 n) (leb n lastChannel) e in

@@ -11,7 +11,7 @@ use Rattle.ads1299.specs.Validity.{valid}
 use Rattle.lines.specs.Lines.{everyConverter}
 use Rattle.bench.specs.declared.Bench.{Bench}
 
--- what is read at a number that no converter has; nothing that is claimed goes by it
+-- what is read at a number that no converter has: it fails 13
 abbrev pub blank : Converter
 blank = state [] [] [] Empty false false false [] Waiting
 

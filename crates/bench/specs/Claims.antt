@@ -9,13 +9,21 @@ use Rattle.refusal.specs.Numbers.{none}
 use Rattle.ads1299_serial.specs.declared.Phase.the-variants.{Waiting}
 use Rattle.ads1299_serial.specs.Transfers.{mostRegisters}
 use Rattle.ads1299.specs.Run.{after}
-use Rattle.lines.specs.Lines.{converterCount}
+use Rattle.parties.specs.Owners.{ownerOf}
+use Rattle.lines.specs.Lines.{converterCount, converterOf, localChannel}
+use Rattle.lines.specs.Ranges.{isBenchChannel}
 use Rattle.bench.specs.declared.Bench.{Bench}
 use Rattle.bench.specs.Bench.{at, validBench, benchOwners}
 use Rattle.bench.specs.Formed.{FormedBench}
 use Rattle.bench.specs.PowerUp.{benchPoweredUp}
 use Rattle.bench.specs.Line.{benchStepped, benchDeselected, benchSampled}
 use Rattle.bench.specs.Run.{bytesFor, bytesTo, benchAfter}
+
+-- The owner of each of the 32 channels is its owner in its own converter's list of eight.
+abbrev pub OwnerAt : Type 0
+OwnerAt =
+    (b : Bench) → FormedBench b → (n : ℕ) → isBenchChannel n ≡ true
+    → ownerOf (benchOwners b) n ≡ ownerOf (at b (converterOf n) .owners) (localChannel n)
 
 -- from one bench to the next, every converter but k is as it was, and so is every channel's owner
 pub record LeavesRest (b next : Bench) (k : ℕ) : Type 0 where
@@ -28,7 +36,7 @@ pub record RestStays : Type 0 where
   pub by-deselect : (b : Bench) (k : ℕ) → LeavesRest b (benchDeselected b k .next) k
   pub by-sample : (b : Bench) (k : ℕ) (codes : List ℤ) (p n : ℕ) → LeavesRest b (benchSampled b k codes p n .next) k
 
--- Whatever bytes come for the others in between, each converter ends as after its own bytes alone: going from one line to another is no rise.
+-- Whatever bytes come for the others in between, each converter ends as after its own bytes alone: no line rises where the next byte is for another converter.
 abbrev pub LinesApart : Type 0
 LinesApart =
     (b : Bench) → FormedBench b → validBench b ≡ true → (bytes : List (ℕ × ℕ)) (k : ℕ) → k < converterCount

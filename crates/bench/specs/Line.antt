@@ -3,11 +3,11 @@ use Prim.Native.Nat.{ℕ}
 use mathlib.Core.Bool.{Bool, cond, not}
 use mathlib.Core.List.{List, [], _∷_}
 use lib.IntN.{ℤ}
-use Rattle.refusal.specs.Numbers.{none, wrongChannel, invalidState}
+use Rattle.refusal.specs.Numbers.{none, wrongChannel, notConverting, badSample, invalidState}
 use Rattle.refusal.specs.First.{firstOf, accepted}
 use Rattle.ads1299.specs.Step.{stepped}
 use Rattle.ads1299.specs.Deselect.{deselected}
-use Rattle.ads1299.specs.Sample.{sampled}
+use Rattle.ads1299.specs.Sample.{running, complete, sampled}
 use Rattle.lines.specs.Lines.{isConverter}
 use Rattle.bench.specs.declared.Bench.{Bench}
 use Rattle.bench.specs.declared.BenchStepped.{BenchStepped}
@@ -37,6 +37,15 @@ benchMoved refusal b = record { refusal = refusal; next = b }
 unfoldable pub benchDeselected : Bench → ℕ → BenchMoved
 benchDeselected b k =
     cond (accepted (lineRefusal b k)) (benchMoved none (withConverter b k (deselected (at b k) .next))) (benchMoved (lineRefusal b k) b)
+
+-- the refusals of a sample of converter k, in the order in which they are tried: 10 and 11 are that converter's own
+abbrev pub benchSampleRefusals : Bench → ℕ → List ℤ → List (Bool × ℕ)
+benchSampleRefusals b k codes =
+    (not (validBench b), invalidState)
+    ∷ (not (isConverter k), wrongChannel)
+    ∷ (not (running (at b k)), notConverting)
+    ∷ (not (complete codes), badSample)
+    ∷ []
 
 -- gives the answer to a sample of converter k: that converter's own, where neither 13 nor 5 refuses
 unfoldable pub benchSampled : Bench → ℕ → List ℤ → ℕ → ℕ → BenchMoved

@@ -1,4 +1,4 @@
--- A bench powers up from four IDs, each converter by its one rule.
+-- Power-up of a bench: each converter by its own rule, or none of the IDs kept.
 use Prim.Native.Nat.{ℕ}
 use mathlib.Core.Bool.{Bool, cond}
 use mathlib.Core.List.{List, map}
@@ -17,7 +17,7 @@ validIds ids = everyConverter (λ k. validId (getD ids k 0))
 unfoldable pub started : List ℕ → Bench
 started ids = record { converters = map (λ k. poweredUp (getD ids k 0) .converter) converterNumbers }
 
--- gives the answer of power-up: where one ID is refused, all four come back as 0
+-- gives the answer of power-up: with a bad ID among them, every converter is as its own power-up gives it for ID 0
 unfoldable pub benchPoweredUp : List ℕ → BenchPoweredUp
 benchPoweredUp ids =
     cond (validIds ids)

@@ -1,4 +1,4 @@
--- A run of bytes on the bench, each with its converter's number. Going from one converter to another is no byte and no rise.
+-- A run of bytes on the bench, each with its converter's number. Nothing happens between a byte for one converter and the next for another.
 use Prim.Native.Nat.{ℕ}
 use mathlib.Core.Bool.{cond}
 use mathlib.Core.List.{List, [], _∷_, map}

@@ -45,7 +45,7 @@ impl Bench {
         }
     }
 
-    // Where one ID is refused, all four come back as 00.
+    // With a bad ID among them none is kept.
     pub fn power_up(ids: [u8; CONVERTERS]) -> BenchPoweredUp
         ensures { λ r. ⌜ r ≡ benchPoweredUp ids ⌝ }
     {

@@ -25,7 +25,7 @@ use Rattle.bench.specs.declared.Bench.{Bench}
 use Rattle.bench.specs.Bench.{at, withConverter, validBench}
 use Rattle.bench.specs.Formed.{FormedBench}
 use Rattle.bench.specs.PowerUp.{validIds, benchPoweredUp}
-use Rattle.bench.specs.Line.{lineRefusals, lineRefusal, benchMoved, benchStepped, benchDeselected, benchSampled}
+use Rattle.bench.specs.Line.{lineRefusals, lineRefusal, benchSampleRefusals, benchMoved, benchStepped, benchDeselected, benchSampled}
 use Rattle.bench.proofs.Converters.{with-same, each-valid}
 use Rattle.bench_grants.specs.Grant.{benchGranted}
 use Rattle.bench_grants.proofs.Worded.{grants-as-worded}
@@ -39,7 +39,7 @@ use Rattle.bench_planner.specs.Planned.{benchPlanned}
 use Rattle.bench_planner.specs.Buffer.{benchTxAfter}
 use Rattle.bench_planner.proofs.Worded.{refusals-as-worded}
 use Rattle.bench_live.specs.Answers.{answerOf}
-use Rattle.bench_demand1.specs.Demand1.{benchSampleRefusals, BenchDemand1}
+use Rattle.bench_demand1.specs.Demand1.{BenchDemand1}
 
 -- a refused answer by its own number, and back
 own-kept : {A : Type 0} {tests : List (Bool × ℕ)} {numberOf : A → ℕ} {answer : A} {refusedBy : ℕ → A} → Judges tests numberOf answer refusedBy

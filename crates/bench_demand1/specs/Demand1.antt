@@ -2,27 +2,25 @@
 -- refused call changes nothing.
 use Prim.Native.Nat.{ℕ}
 use mathlib.Core.Path.{_≡_}
-use mathlib.Core.Bool.{Bool, false, not}
+use mathlib.Core.Bool.{false, not}
 use mathlib.Core.List.{List, [], _∷_}
 use lib.IntN.{ℤ, pos}
 use lib.ListN.{replicate}
-use Rattle.refusal.specs.Numbers.{wrongChannel, notConverting, badSample, invalidState}
+use Rattle.refusal.specs.Numbers.{invalidState}
 use Rattle.refusal.specs.First.{firstOf, accepted}
 use Rattle.ads1299_codes.specs.declared.Rail.the-variants.{Neither}
-use Rattle.ads1299.specs.Sample.{running, complete}
 use Rattle.readings.specs.declared.Reading.{Reading}
 use Rattle.readings.specs.Reading.{reading}
 use Rattle.planner.specs.Submission.{Submission}
 use Rattle.demand1.specs.Demand1.{Judges}
-use Rattle.lines.specs.Lines.{converterCount, isConverter}
+use Rattle.lines.specs.Lines.{converterCount}
 use Rattle.bench.specs.declared.Bench.{Bench}
 use Rattle.bench.specs.declared.BenchPoweredUp.{BenchPoweredUp}
 use Rattle.bench.specs.declared.BenchStepped.{BenchStepped}
 use Rattle.bench.specs.declared.BenchMoved.{BenchMoved}
-use Rattle.bench.specs.Bench.{at, validBench}
 use Rattle.bench.specs.Formed.{FormedBench}
 use Rattle.bench.specs.PowerUp.{validIds, started, benchPoweredUp}
-use Rattle.bench.specs.Line.{lineRefusals, benchMoved, benchStepped, benchDeselected, benchSampled}
+use Rattle.bench.specs.Line.{lineRefusals, benchSampleRefusals, benchMoved, benchStepped, benchDeselected, benchSampled}
 use Rattle.bench_grants.specs.Grant.{benchGranted, benchGrantRefusals}
 use Rattle.bench_readings.specs.Reading.{benchReading, benchPartBytes, benchReadingRefusals}
 use Rattle.bench_planner.specs.declared.BenchPlanned.{BenchPlanned}
@@ -32,15 +30,6 @@ use Rattle.bench_planner.specs.Planned.{benchPlanned}
 use Rattle.bench_planner.specs.Buffer.{benchTxAfter}
 use Rattle.bench_live.specs.declared.Answer.{Answer}
 use Rattle.bench_live.specs.Answers.{answerOf}
-
--- the refusals of a sample of converter k, in the order in which they are tried: 13 and 5 before what that converter itself refuses
-abbrev pub benchSampleRefusals : Bench → ℕ → List ℤ → List (Bool × ℕ)
-benchSampleRefusals b k codes =
-    (not (validBench b), invalidState)
-    ∷ (not (isConverter k), wrongChannel)
-    ∷ (not (running (at b k)), notConverting)
-    ∷ (not (complete codes), badSample)
-    ∷ []
 
 -- Every entry point of the bench judges its own input, and a refused call changes nothing.
 pub record BenchDemand1 : Type 0 where

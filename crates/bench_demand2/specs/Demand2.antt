@@ -56,7 +56,7 @@ pub record Fulfilled (b : Bench) (x : Submission) : Type 0 where
   pub next : benchPlanned b x .next ≡ sent b x
   pub passes : validBench (benchPlanned b x .next) ≡ true
   pub counted : benchPlanned b x .length ≡ length (benchPlan b x)
-  -- the rise of that converter's line, straight after the last byte, changes nothing
+  -- and deselecting that converter then leaves the bench as it is
   pub rise : benchDeselected (sent b x) (benchPlanned b x .converter) ≡ benchMoved none (sent b x)
 
 -- a refused request changes nothing, sends nothing and carries no converter's number

@@ -6,7 +6,7 @@ use mathlib.Core.List.{List, [], _∷_, flatten}
 use borrow.Author.Tests.{eqb-true, eqb-false}
 use lib.Dec.{eqb}
 use lib.ListN.{length}
-use Rattle.cases.proofs.Cases.{split, and-both}
+use Rattle.cases.proofs.Cases.{split, and-both, and-false}
 use Rattle.refusal.specs.First.{accepted}
 use Rattle.ads1299_serial.specs.declared.Output.the-variants.{Empty}
 use Rattle.ads1299.specs.declared.Converter.{Converter}
@@ -52,10 +52,6 @@ next-at t size x k =
     (λ q. rw (nextBench, v, q, ← eqb-true j k q) (at-same t j size (below-four (x .request .channel)) u))
     (λ q. rw (nextBench, v, q) (at-other t j u k (λ z. eqb-false j k q (sym z)))))
     (λ v. rw (nextBench, v))
-
-and-false : (a : Bool) → (a && false) ≡ false
-and-false true = refl
-and-false false = refl
 
 -- an accepted request names the converter that it comes to
 counts : (t : Bench) (x : Submission) (k : ℕ) → k < converterCount

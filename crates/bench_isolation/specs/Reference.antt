@@ -1,5 +1,5 @@
 -- The reference model of the bench (document 01: the chart): a cell for each field and number, 89 for each converter, and a step that knows
--- no register, no byte and no converter.
+-- no register and no byte.
 use Prim.Native.Nat.{ℕ}
 use mathlib.Core.Bool.{cond}
 use mathlib.Core.List.{List, [], _∷_}

@@ -1,4 +1,4 @@
--- What the planner answers beside the live bench, which is changed where it lies.
+-- What the planner answers beside the live bench.
 use Rattle.bench_planner.specs.declared.BenchPlanned.{BenchPlanned}
 use Rattle.bench_live.specs.declared.Answer.{Answer}
 

@@ -15,7 +15,7 @@ pub struct Answer {
     pub length: usize,
 }
 
-// The live bench is lent and changed where it lies: one call of the planner and one store.
+// One call of the planner and one store.
 pub fn plan_live(live: &mut Bench, party: u32, request: Request, tx: &mut [u8], at: usize) -> Answer
     ensures { λ r. ⌜ (r ≡ answerOf (benchPlanned (now (live .entry)) (submission party request (now (tx .entry)) at)))
         × ((now (live .exit) ≡ benchPlanned (now (live .entry)) (submission party request (now (tx .entry)) at) .next)

@@ -6,7 +6,7 @@ use mathlib.Core.List.{List, _∷_}
 use native.Mathlib.Omega.{arith}
 use lib.Dec.{eqb, ltb}
 use Rattle.cases.specs.Every.{anyOf}
-use Rattle.cases.proofs.Cases.{split}
+use Rattle.cases.proofs.Cases.{split, or-false}
 use Rattle.refusal.specs.Numbers.{invalidState}
 use Rattle.refusal.specs.First.{firstOf}
 use Rattle.ads1299_serial.specs.Transfers.{isWaiting}
@@ -62,10 +62,6 @@ named-so f n e =
     (λ c. split (isBenchChannel n) (λ q. rw q) (λ q. rw (q, rw c at e)))
 
 -- what is asked of the converter that is named is asked of the one that the mapping says
-or-false : (b : Bool) → (b || false) ≡ b
-or-false true = refl
-or-false false = refl
-
 chosen : (k : ℕ) → k < converterCount → (test : ℕ → Bool) → anyOf (λ j. eqb k j && test j) converterNumbers ≡ test k
 chosen zero h test = or-false (test 0)
 chosen (suc zero) h test = or-false (test 1)

@@ -17,7 +17,7 @@ use Rattle.bench_planner.specs.Local.{target, localised}
 abbrev pub answerFrom : ℕ → Planned → Bench → BenchPlanned
 answerFrom k p next = record { refusal = p .refusal; converter = cond (accepted (p .refusal)) k 0; length = p .length; next = next }
 
--- gives the answer: 13 looks at all four converters, all else at the one that the request names
+-- gives the answer: that of the converter which the request names, once every converter passes 13
 unfoldable pub benchPlanned : Bench → Submission → BenchPlanned
 benchPlanned b x =
     cond (validBench b)

@@ -29,8 +29,8 @@ use Rattle.bench_planner.specs.Planned.{benchPlanned}
 abbrev pub namedPasses : Bench → ℕ → (Converter → Bool) → Bool
 namedPasses b n test = anyOf (λ k. names k n && test (at b k)) converterNumbers
 
--- the tests with their numbers, given the fields' values, which none of them reads yet, in the order in which they are tried: 13 looks at all
--- four converters, 8 and 9 at the one that is named
+-- the tests with their numbers, in the order in which they are tried. They are given the fields' values, which none of them reads yet. 13 asks
+-- every converter, 8 and 9 the one that is named.
 abbrev pub benchRefusals : Bench → Values → Submission → List (Bool × ℕ)
 benchRefusals b values x =
     (not (validBench b), invalidState)

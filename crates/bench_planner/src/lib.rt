@@ -46,7 +46,7 @@ fn answer(number: u32, planned: Planned, next: Bench) -> BenchPlanned
     }
 }
 
-// Plans a request into the transmit buffer from a place on. Refusal 13 looks at all four converters, every other at the one named.
+// Plans a request into the transmit buffer from a place on, by the named converter, once every converter passes 13.
 pub fn plan(bench: Bench, party: u32, request: Request, tx: &mut [u8], at: usize) -> BenchPlanned
     ensures planned { λ r. ⌜ (r ≡ benchPlanned bench (submission party request (now (tx .entry)) at))
         × (now (tx .exit) ≡ benchTxAfter bench (submission party request (now (tx .entry)) at) (now (tx .entry)) at) ⌝ }

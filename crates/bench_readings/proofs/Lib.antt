@@ -1,3 +1,4 @@
 pub mod Worded
+pub mod Refusals
 pub mod EqualReadings
 pub mod Samples

@@ -14,6 +14,7 @@ use Rattle.ads1299.specs.declared.Converter.{Converter}
 use Rattle.ads1299.specs.Sample.{sampled}
 use Rattle.ads1299.proofs.StaysValid.{stays-valid}
 use Rattle.readings.specs.Reading.{channelReading, partBytes}
+use Rattle.readings.specs.Claims.{ReadsZero}
 use Rattle.readings.proofs.Samples as single
 use Rattle.lines.specs.Lines.{converterOf, localChannel, channelOn, benchChannel}
 use Rattle.lines.proofs.Numbering.{converter-back, channel-back}
@@ -25,7 +26,7 @@ use Rattle.bench.proofs.Line.{clear}
 use Rattle.bench.proofs.Converters.{at-same, each-valid, with-valid}
 use Rattle.bench.proofs.Owners.{owner-at}
 use Rattle.bench_readings.specs.Reading.{benchReading, benchPartBytes}
-use Rattle.bench_readings.specs.Claims.{SamplesReadBack}
+use Rattle.bench_readings.specs.Claims.{SamplesReadBack, PoweredDownReadsZero}
 
 module _ (b : Bench) (k : ℕ) (codes : List ℤ) (p q : ℕ) where
   abbrev u : Converter
@@ -43,10 +44,13 @@ module _ (b : Bench) (k : ℕ) (codes : List ℤ) (p q : ℕ) where
   unfolding benchSampled
   next-is e = rw (line-clear e)
 
+counted : (k m : ℕ) → converterOf (benchChannel k m) ≡ k → localChannel (benchChannel k m) ≡ m → channelOn k (benchChannel k m) ≡ m
+unfolding channelOn
+counted k m converter channel = rw (converter, eq-eqb k k refl, channel)
+
 module _ (b : Bench) (k m : ℕ) (party : ℕ) (v : validBench b ≡ true) (converter : converterOf (benchChannel k m) ≡ k) (channel : localChannel (benchChannel k m) ≡ m) where
   channel-is : channelOn k (benchChannel k m) ≡ m
-  unfolding channelOn
-  channel-is = rw (converter, eq-eqb k k refl, channel)
+  channel-is = counted k m converter channel
 
   pub read-is : (frame : List ℕ) → benchReading b k party (benchChannel k m) frame ≡ channelReading (at b k) party m frame
   unfolding benchReading
@@ -74,3 +78,20 @@ samples-read-back b f k codes p q m hp hq e c =
       read = read-is (withConverter b k w) k m (ownerOf (s .owners) m) next-valid converter channel (at (withConverter b k w) k .latest) ∙ rw same (back .read);
       part = part-is (withConverter b k w) k m (ownerOf (s .owners) m) next-valid converter channel (at (withConverter b k w) k .latest) ∙ rw same (back .part);
     })
+
+-- a reading of what reads 0 on every converter
+zero-read : (d : Bench) (k party n : ℕ) (frame : List ℕ) → ((s : Converter) → ReadsZero (channelReading s party (channelOn k n) frame))
+    → ReadsZero (benchReading d k party n frame)
+unfolding benchReading
+zero-read d k party n frame zero =
+    split (validBench d) (λ v. rw v (zero (at d (converterOf n)))) (λ v. rw v (record { code = refl; rail = refl }))
+
+pub powered-down-reads-zero : PoweredDownReadsZero
+powered-down-reads-zero b f k codes p q m e c down d party =
+    let l = clear b k (eqb-true _ _ (line-clear b k codes p q e)) in
+    let high = bounds m c .high in
+    let channel = counted k m (converter-back k m (l .number) high) (channel-back k m (l .number) high) in
+    let s = at b k in
+    let same = at-same b k (f .size) (l .number) (sampled s codes p q .next) in
+    zero-read d k party (benchChannel k m) (at (benchSampled b k codes p q .next) k .latest)
+    (λ t. rw (channel, next-is b k codes p q e, same) (single.powered-down-reads-zero s codes p q m (taken b k codes p q e) c down t party))

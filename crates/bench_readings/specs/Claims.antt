@@ -1,21 +1,22 @@
 -- What is claimed of readings on the bench beyond the functions' contracts.
 use Prim.Native.Nat.{ℕ, _-_, _<_}
 use mathlib.Core.Path.{_≡_}
-use mathlib.Core.Bool.{true}
+use mathlib.Core.Bool.{true, cond}
 use mathlib.Core.List.{List}
 use lib.IntN.{ℤ}
 use lib.ListN.{length}
 use Rattle.bits.specs.Fields.{bit}
 use Rattle.refusal.specs.Numbers.{none}
-use Rattle.refusal.specs.First.{firstOf}
+use Rattle.refusal.specs.First.{firstOf, accepted}
 use Rattle.parties.specs.Owners.{ownerOf}
 use Rattle.ads1299_registers.specs.Channels.{isChannel}
 use Rattle.ads1299_codes.specs.Codes.{wordOf}
-use Rattle.ads1299_codes.specs.Words.{wordBytes}
+use Rattle.ads1299_codes.specs.Words.{wordLength, wordBytes}
 use Rattle.ads1299_codes.specs.Rails.{railOf}
-use Rattle.ads1299_frame.specs.Frame.{shown}
+use Rattle.ads1299_frame.specs.Frame.{poweredDown, shown}
 use Rattle.ads1299_readout.specs.Reading.{leadingBits, channelBytes, leadOffP, leadOffN}
 use Rattle.readings.specs.Reading.{reading}
+use Rattle.readings.specs.Claims.{ReadsZero}
 use Rattle.lines.specs.Lines.{converterOf, channelOn, benchChannel}
 use Rattle.bench.specs.declared.Bench.{Bench}
 use Rattle.bench.specs.Bench.{at, validBench, benchOwners}
@@ -52,6 +53,17 @@ abbrev pub EqualReadings : Type 0
 EqualReadings =
     (b d : Bench) (k party n : ℕ) (first second : List ℕ) → Alike b d k n first second → SameReading b d k party n first second
 
+-- The second call gives three bytes exactly when the first one accepts, else none.
+abbrev pub ThreeOrNone : Type 0
+ThreeOrNone =
+    (b : Bench) (k party n : ℕ) (frame : List ℕ)
+    → length (benchPartBytes b k party n frame) ≡ cond (accepted (benchReading b k party n frame .refusal)) wordLength 0
+
+-- A reading's rail is that of its code, refused or not.
+abbrev pub RailOfCode : Type 0
+RailOfCode =
+    (b : Bench) (k party n : ℕ) (frame : List ℕ) → benchReading b k party n frame .rail ≡ railOf (benchReading b k party n frame .code)
+
 -- a party reads channel m of converter k from that converter's latest frame, by the bench's number and with the converter's, as it was sampled
 pub record ReadsSample (registers : List ℕ) (codes : List ℤ) (p q party k m : ℕ) (next : Bench) : Type 0 where
   pub read : benchReading next k party (benchChannel k m) (at next k .latest)
@@ -65,3 +77,10 @@ SamplesReadBack =
     → p < 256 → q < 256
     → benchSampled b k codes p q .refusal ≡ none → isChannel m ≡ true
     → ReadsSample (at b k .registers) codes p q (ownerOf (benchOwners b) (benchChannel k m)) k m (benchSampled b k codes p q .next)
+
+-- A channel that was powered down at a sample of its converter reads 0 from that frame, on neither rail, whoever reads it, on whichever bench, refused or not.
+abbrev pub PoweredDownReadsZero : Type 0
+PoweredDownReadsZero =
+    (b : Bench) → FormedBench b → (k : ℕ) (codes : List ℤ) (p q m : ℕ)
+    → benchSampled b k codes p q .refusal ≡ none → isChannel m ≡ true → poweredDown (at b k .registers) m ≡ true
+    → (d : Bench) (party : ℕ) → ReadsZero (benchReading d k party (benchChannel k m) (at (benchSampled b k codes p q .next) k .latest))

@@ -28,7 +28,7 @@ pub fn read_channel(bench: Bench, number: u32, party: u32, channel: u32, frame: 
     }
 }
 
-// The channel's three bytes as a part of the caller's own frame; an empty part at its start where read_channel refuses.
+// Where the channel lies in the caller's own frame; at its start, and empty, where read_channel refuses.
 pub fn channel_bytes(bench: Bench, number: u32, party: u32, channel: u32, frame: &[u8]) -> &[u8]
     ensures { λ r. ⌜ (now r ≡ benchPartBytes bench number party channel (now (frame .entry)))
         × (r .ptr ≡ (frame .entry .ptr .0, benchPartPlace bench number party channel (now (frame .entry)) + frame .entry .ptr .1)) ⌝ }

@@ -1,14 +1,14 @@
--- Figures of document 02, No. 4, in one table: numbers, power-up, plans, bytes, grants and readings on a bench.
+-- Figures of document 02, No. 4, in one table: numbers, power-up, plans, bytes, samples, grants and readings on a bench.
 use Prim.Native.Nat.{ℕ}
 use mathlib.Core.Bool.{true, false}
 use mathlib.Core.List.{List, [], _∷_, _++_, map}
-use lib.IntN.{pos, negℤ}
+use lib.IntN.{ℤ, pos, negℤ}
 use lib.ListN.{getD, replicate}
 use Rattle.cases.specs.Figures.{Hold}
 use Rattle.ads1299_registers.specs.Addresses.{ID}
 use Rattle.ads1299_codes.specs.declared.Rail.the-variants.{Neither}
 use Rattle.ads1299.specs.declared.Converter.{Converter}
-use Rattle.ads1299.specs.State.{withOwners}
+use Rattle.ads1299.specs.State.{withOwners, withConverting}
 use Rattle.ads1299.specs.Figures.{shared}
 use Rattle.planner.specs.Submission.{Submission}
 use Rattle.planner.specs.Figures.{asks, command, half}
@@ -19,7 +19,7 @@ use Rattle.lines.specs.Lines.{converterOf, localChannel}
 use Rattle.bench.specs.declared.Bench.{Bench}
 use Rattle.bench.specs.Bench.{withConverter, benchOwners}
 use Rattle.bench.specs.PowerUp.{benchPoweredUp}
-use Rattle.bench.specs.Line.{benchStepped, benchDeselected}
+use Rattle.bench.specs.Line.{benchStepped, benchDeselected, benchSampled}
 use Rattle.bench.specs.Run.{bytesFor}
 use Rattle.bench_planner.specs.Planned.{benchPlanned, benchPlan}
 use Rattle.bench_grants.specs.Grant.{benchGranted}
@@ -35,6 +35,8 @@ pub data Figure : Type 0 where
   planning : Bench → Submission → ℕ → ℕ → List (ℕ × ℕ) → Figure
   -- a bench, a converter's number and a byte; the refusals of the byte and of that line's rise
   coming : Bench → ℕ → ℕ → ℕ → ℕ → Figure
+  -- a bench, a converter's number and the codes of a sample; the refusal
+  sampling : Bench → ℕ → List ℤ → ℕ → Figure
   -- a bench, caller, receiver and channel of a grant; the refusal and the owners after it
   granting : Bench → ℕ → ℕ → ℕ → ℕ → List ℕ → Figure
   -- a bench, a converter's number, party, channel and a frame; the reading
@@ -50,6 +52,7 @@ workedOut (mapped n k m) = mapped n (converterOf n) (localChannel n)
 workedOut (powering ids refusal known) = powering ids (benchPoweredUp ids .refusal) (idsOf (benchPoweredUp ids .bench))
 workedOut (planning b x refusal k bytes) = planning b x (benchPlanned b x .refusal) (benchPlanned b x .converter) (benchPlan b x)
 workedOut (coming b k byte refusal rise) = coming b k byte (benchStepped b k byte .refusal) (benchDeselected b k .refusal)
+workedOut (sampling b k codes refusal) = sampling b k codes (benchSampled b k codes 0x00 0x00 .refusal)
 workedOut (granting b caller receiver n refusal owners) =
     granting b caller receiver n (benchGranted b caller receiver n .refusal) (benchOwners (benchGranted b caller receiver n .next))
 workedOut (reads b k party n frame answer) = reads b k party n frame (benchReading b k party n frame)
@@ -70,13 +73,17 @@ damaged = withConverter idle 3 (withOwners command (9 ∷ 0 ∷ 0 ∷ 0 ∷ 0 �
 abbrev pub rented : Bench
 rented = withConverter idle 1 shared
 
+-- gives a bench of which converter 3 alone takes samples
+abbrev pub started : Bench
+started = withConverter idle 3 (withConverting command true)
+
 -- gives no reading
 abbrev pub unread : ℕ → Reading
 unread refusal = reading refusal (pos 0) Neither false false
 
 -- gives the table: channels at both ends of a converter, converters as a whole and numbers that name none; four IDs, and one bad one among
 -- four; channel 9, whose gain is in CH1SET of converter 1; the data rate of converter 2; numbers that do not go with the field; 8 and 13;
--- numbers that no converter has; grants; readings with the channel's converter and with others
+-- numbers that no converter has; samples; grants; readings with the channel's converter and with others
 abbrev pub figures : List Figure
 figures =
     mapped 1 0 1 ∷ mapped 8 0 8 ∷ mapped 9 1 1 ∷ mapped 16 1 8 ∷ mapped 17 2 1 ∷ mapped 25 3 1 ∷ mapped 32 3 8
@@ -102,6 +109,11 @@ figures =
     ∷ coming idle 4 0x00 5 5
     ∷ coming damaged 4 0x00 13 13
     ∷ coming damaged 0 0x00 13 13
+    ∷ sampling started 3 (replicate 8 (pos 0)) 0
+    ∷ sampling started 3 [] 11
+    ∷ sampling started 0 [] 10
+    ∷ sampling started 4 [] 5
+    ∷ sampling damaged 4 [] 13
     ∷ granting idle 0 5 9 0 (replicate 8 0 ++ (5 ∷ replicate 23 0))
     ∷ granting idle 0 5 32 0 (replicate 31 0 ++ (5 ∷ []))
     ∷ granting idle 0 5 33 5 (replicate 32 0)

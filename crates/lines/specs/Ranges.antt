@@ -23,4 +23,4 @@ wholeNumber k = cond (eqb k 0) 0 (lastChannel + k)
 
 -- number n names converter k, by one of its channels or as a whole
 abbrev pub names : ℕ → ℕ → Bool
-names k n = cond (isBenchChannel n) (hasChannel k n) (eqb n (wholeNumber k))
+names k n = cond (isBenchChannel n) (hasChannel k n) (isWhole n && eqb n (wholeNumber k))

@@ -1,4 +1,4 @@
--- plan_borrowed meets its contract: a walk of its code, by hand. The state is copied to a local, lent for a lifetime that is made
+-- plan_borrowed meets its contract: a walk of its code, by hand. The bench is copied to a local, lent for a lifetime that is made
 -- for the call of plan_live, and read back once that lifetime is over. The buffer is passed on for good.
 use mathlib.Core.Path.{_≡_, refl, ap}
 use Prim.Native.Nat.{ℕ, _<_, _^_}

@@ -1,5 +1,5 @@
--- plan_live meets its contract: a walk of its code, by hand. The state's borrow is opened, the planner called on a copy, and the
--- borrow closed at the state that it answered.
+-- plan_live meets its contract: a walk of its code, by hand. The bench's borrow is opened, the planner called on a copy, and the
+-- borrow closed at the bench that it answered.
 use mathlib.Core.Path.{_≡_, refl, ap}
 use Prim.Native.Nat.{ℕ, _<_, _^_}
 use mathlib.Core.List.{[], _∷_, List}
