@@ -1,17 +1,18 @@
 -- One converter of the bench replaced: the others, the whole, and refusal 13.
 use Prim.Native.Nat.{ℕ, zero, suc, _<_}
-use mathlib.Core.Path.{_≡_, refl, ap}
-use mathlib.Core.Bool.{Bool, true}
+use mathlib.Core.Path.{_≡_, refl, sym, _∙_, ap}
+use mathlib.Core.Bool.{Bool, true, false≢true}
 use mathlib.Core.List.{List, [], _∷_}
 use native.Mathlib.Omega.{arith}
-use borrow.Author.Tests.{eqb-true, eqb-false}
-use lib.Dec.{eqb}
-use lib.ListN.{length, set, length-set}
+use borrow.Author.Tests.{eqb-true, eqb-false, ltb-true, ltb-false}
+use lib.Dec.{eqb, ltb}
+use lib.ListN.{length, set, List·getD-eq-default}
 use lib.Seq.{getD-set-same, getD-set-other, set-getD}
 use Rattle.cases.proofs.Below.{below-at}
 use Rattle.cases.proofs.Cases.{split, and-both}
 use Rattle.ads1299.specs.declared.Converter.{Converter}
-use Rattle.ads1299.specs.Validity.{valid}
+use Rattle.ads1299.specs.PowerUp.{validId}
+use Rattle.ads1299.specs.Validity.{validConverter, valid}
 use Rattle.lines.specs.Lines.{converterCount, everyConverter}
 use Rattle.bench.specs.declared.Bench.{Bench}
 use Rattle.bench.specs.Bench.{blank, at, withConverter, validBench}
@@ -65,8 +66,23 @@ pub all-valid : (b : Bench) → ((k : ℕ) → k < converterCount → valid (at 
 unfolding validBench
 all-valid b e = passes-every (λ k. valid (at b k)) e
 
-module _ (b : Bench) (k : ℕ) (h : k < converterCount) where
-  pub with-valid : length (b .converters) ≡ converterCount → (c : Converter) → validBench b ≡ true → valid c ≡ true
-      → validBench (withConverter b k c) ≡ true
-  with-valid size c e v =
-      all-valid (withConverter b k c) (each-with b k size h (λ j (d : Converter). valid d ≡ true) c v (λ j lt ne. each-valid b e j lt))
+module _ (b : Bench) (e : validBench b ≡ true) (k : ℕ) (h : k < converterCount) where
+  -- a bench that passes 13 has a converter of each number, since what is read beyond the last fails it
+  there : k < length (b .converters)
+  unfolding valid validConverter validId
+  there =
+      split (ltb k (length (b .converters)))
+      (λ q. ltb-true k (length (b .converters)) q)
+      (λ q.
+      let beyond : at b k ≡ blank = List·getD-eq-default (b .converters) blank (ltb-false k (length (b .converters)) q) in
+      absurd (false≢true (ap valid (sym beyond) ∙ each-valid b e k h)))
+
+  pub at-valid : (c : Converter) → at (withConverter b k c) k ≡ c
+  at-valid c = getD-set-same (b .converters) k c blank there
+
+  pub with-valid : (c : Converter) → valid c ≡ true → validBench (withConverter b k c) ≡ true
+  with-valid c v =
+      all-valid (withConverter b k c)
+      (λ j lt. split (eqb j k)
+      (λ q. rw (eqb-true j k q, at-valid c) v)
+      (λ q. rw (at-other b k c j (eqb-false j k q)) (each-valid b e j lt)))

@@ -1,10 +1,9 @@
 -- What the code's arrays have, read out of what a bench owns: four converters, each of whole arrays of bytes.
 use Prim.Native.Nat.{ℕ, zero, suc, _<_}
-use mathlib.Core.Path.{_≡_}
 use mathlib.Core.List.{List, [], _∷_, map}
 use native.Mathlib.Omega.{arith}
 use borrow.Author.Needs.{needs}
-use lib.ListN.{length, length-map, getD}
+use lib.ListN.{length, getD}
 use mir.Syntax.{w8}
 use mir.Val.{Val, Fits}
 use denote.Shadow.{shadow}

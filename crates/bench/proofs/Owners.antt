@@ -1,7 +1,6 @@
 -- The owner of a channel in the bench's list of 32 is its owner in its converter's list of eight.
 use Prim.Native.Nat.{ℕ, zero, suc, _+_, _*_, _-_, _/_, _%_, _<_}
 use mathlib.Core.Path.{_≡_, sym, _∙_, ap}
-use mathlib.Core.Bool.{true}
 use mathlib.Core.List.{List, [], _∷_, _++_, map, flatten}
 use native.Mathlib.Omega.{arith}
 use borrow.Author.Tests.{leb-true, ne-eqb}
@@ -13,8 +12,6 @@ use Rattle.ads1299_registers.specs.Addresses.{channelCount}
 use Rattle.parties.specs.Owners.{ownerOf}
 use Rattle.ads1299.specs.declared.Converter.{Converter}
 use Rattle.lines.specs.Lines.{lastChannel, converterOf, localChannel}
-use Rattle.lines.specs.Ranges.{isBenchChannel}
-use Rattle.bench.specs.declared.Bench.{Bench}
 use Rattle.bench.specs.Bench.{blank, at, benchOwners}
 use Rattle.bench.specs.Claims.{OwnerAt}
 

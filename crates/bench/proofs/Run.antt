@@ -4,7 +4,6 @@ use mathlib.Core.Path.{_≡_, refl, sym, _∙_, ap}
 use mathlib.Core.Bool.{true}
 use mathlib.Core.List.{List, [], _∷_, _++_}
 use borrow.Author.Tests.{lt-ltb}
-use lib.ListN.{length, length-set}
 use Rattle.ads1299.specs.declared.Converter.{Converter}
 use Rattle.ads1299.specs.Step.{stepped}
 use Rattle.ads1299.specs.Run.{after, runRefusals}
@@ -14,7 +13,7 @@ use Rattle.bench.specs.declared.Bench.{Bench}
 use Rattle.bench.specs.Bench.{at, withConverter, validBench}
 use Rattle.bench.specs.Line.{lineRefusal, benchStepped}
 use Rattle.bench.specs.Run.{bytesFor, benchAfter, benchRunRefusals}
-use Rattle.bench.proofs.Converters.{with-again, with-same, at-same, each-valid, with-valid}
+use Rattle.bench.proofs.Converters.{with-again, with-same, at-valid, each-valid, with-valid}
 
 pub after-append : (xs : List (ℕ × ℕ)) (b : Bench) (ys : List (ℕ × ℕ)) → benchAfter b (xs ++ ys) ≡ benchAfter (benchAfter b xs) ys
 unfolding benchAfter
@@ -32,29 +31,25 @@ stepped-refusal b k byte h e = rw (e, lt-ltb k converterCount h, each-valid b e 
 
 module _ (k : ℕ) (h : k < converterCount) where
   -- the bench that a byte leaves passes 13 again
-  next-valid : (b : Bench) (byte : ℕ) → length (b .converters) ≡ converterCount → validBench b ≡ true
-      → validBench (withConverter b k (stepped (at b k) byte .next)) ≡ true
-  next-valid b byte size e =
-      with-valid b k h size (stepped (at b k) byte .next) e (stays-valid (at b k) (each-valid b e k h) .by-byte byte)
+  next-valid : (b : Bench) (byte : ℕ) → validBench b ≡ true → validBench (withConverter b k (stepped (at b k) byte .next)) ≡ true
+  next-valid b byte e = with-valid b e k h (stepped (at b k) byte .next) (stays-valid (at b k) (each-valid b e k h) .by-byte byte)
 
-  pub run-one : (bytes : List ℕ) (b : Bench) → length (b .converters) ≡ converterCount → validBench b ≡ true
-      → benchAfter b (bytesFor k bytes) ≡ withConverter b k (after (at b k) bytes)
+  pub run-one : (bytes : List ℕ) (b : Bench) → validBench b ≡ true → benchAfter b (bytesFor k bytes) ≡ withConverter b k (after (at b k) bytes)
   unfolding benchAfter after
-  run-one [] b size e = sym (with-same b k)
-  run-one (byte ∷ bytes) b size e =
+  run-one [] b e = sym (with-same b k)
+  run-one (byte ∷ bytes) b e =
       let c = stepped (at b k) byte .next in
       ap (λ (u : Bench). benchAfter u (bytesFor k bytes)) (stepped-with b k byte h e)
-      ∙ run-one bytes (withConverter b k c) (length-set (b .converters) k c ∙ size) (next-valid b byte size e)
+      ∙ run-one bytes (withConverter b k c) (next-valid b byte e)
       ∙ with-again b k c (after (at (withConverter b k c) k) bytes)
-      ∙ ap (λ (u : Converter). withConverter b k (after u bytes)) (at-same b k size h c)
+      ∙ ap (λ (u : Converter). withConverter b k (after u bytes)) (at-valid b e k h c)
 
-  pub run-refusals : (bytes : List ℕ) (b : Bench) → length (b .converters) ≡ converterCount → validBench b ≡ true
-      → benchRunRefusals b (bytesFor k bytes) ≡ runRefusals (at b k) bytes
+  pub run-refusals : (bytes : List ℕ) (b : Bench) → validBench b ≡ true → benchRunRefusals b (bytesFor k bytes) ≡ runRefusals (at b k) bytes
   unfolding benchRunRefusals runRefusals
-  run-refusals [] b size e = refl
-  run-refusals (byte ∷ bytes) b size e =
+  run-refusals [] b e = refl
+  run-refusals (byte ∷ bytes) b e =
       let c = stepped (at b k) byte .next in
       let rest = ap (λ (u : Bench). benchRunRefusals u (bytesFor k bytes)) (stepped-with b k byte h e)
-      ∙ run-refusals bytes (withConverter b k c) (length-set (b .converters) k c ∙ size) (next-valid b byte size e)
-      ∙ ap (λ (u : Converter). runRefusals u bytes) (at-same b k size h c) in
+      ∙ run-refusals bytes (withConverter b k c) (next-valid b byte e)
+      ∙ ap (λ (u : Converter). runRefusals u bytes) (at-valid b e k h c) in
       (λ i. stepped-refusal b k byte h e i ∷ rest i)

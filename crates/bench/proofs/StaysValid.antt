@@ -21,12 +21,11 @@ use Rattle.ads1299.proofs.Waiting as converter-waiting
 use Rattle.lines.specs.Lines.{converterCount}
 use Rattle.bench.specs.declared.Bench.{Bench}
 use Rattle.bench.specs.Bench.{at, withConverter, validBench}
-use Rattle.bench.specs.Formed.{FormedBench}
 use Rattle.bench.specs.PowerUp.{validIds, started, benchPoweredUp}
 use Rattle.bench.specs.Line.{lineRefusal, benchStepped, benchDeselected, benchSampled}
 use Rattle.bench.specs.Claims.{PowersUpValid, NextValid, StaysValid, ReachesWaiting}
 use Rattle.bench.proofs.Line.{clear}
-use Rattle.bench.proofs.Converters.{every-passes, at-same, at-other, each-valid, with-valid}
+use Rattle.bench.proofs.Converters.{every-passes, at-valid, at-other, each-valid, with-valid}
 use Rattle.bench.proofs.Run.{run-one}
 
 -- power-up
@@ -47,9 +46,9 @@ powers-up-valid ids =
     split (validIds ids) (λ e. rw e (λ z. started-valid ids e)) (λ e. rw e (λ z. absurd (omega (arith, z))))
 
 -- a byte, a rise and a sample
-module _ (b : Bench) (f : FormedBench b) (v : validBench b ≡ true) where
+module _ (b : Bench) (v : validBench b ≡ true) where
   with-next : (k : ℕ) → accepted (lineRefusal b k) ≡ true → (c : Converter) → valid c ≡ true → validBench (withConverter b k c) ≡ true
-  with-next k e c w = with-valid b k (clear b k (eqb-true _ _ e) .number) (f .size) c v w
+  with-next k e c w = with-valid b v k (clear b k (eqb-true _ _ e) .number) c w
 
   each : (k : ℕ) → accepted (lineRefusal b k) ≡ true → converter-claims.NextValid (at b k)
   each k e = converter.stays-valid (at b k) (each-valid b v k (clear b k (eqb-true _ _ e) .number))
@@ -74,9 +73,9 @@ zeros s v more =
     rw (← n) (w .waits (mostRegisters - w .count + more))
 
 pub reaches-waiting : ReachesWaiting
-reaches-waiting b f v k h =
+reaches-waiting b v k h =
     record {
-      waits = λ more. rw (run-one k h (replicate (mostRegisters + more) 0) b (f .size) v, at-same b k (f .size) h (after (at b k) (replicate (mostRegisters + more) 0)))
+      waits = λ more. rw (run-one k h (replicate (mostRegisters + more) 0) b v, at-valid b v k h (after (at b k) (replicate (mostRegisters + more) 0)))
           (zeros (at b k) (each-valid b v k h) more);
-      others = λ count j ne. rw (run-one k h (replicate count 0) b (f .size) v) (at-other b k (after (at b k) (replicate count 0)) j ne);
+      others = λ count j ne. rw (run-one k h (replicate count 0) b v) (at-other b k (after (at b k) (replicate count 0)) j ne);
     }

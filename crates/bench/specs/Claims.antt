@@ -39,7 +39,7 @@ pub record RestStays : Type 0 where
 -- Whatever bytes come for the others in between, each converter ends as after its own bytes alone: no line rises where the next byte is for another converter.
 abbrev pub LinesApart : Type 0
 LinesApart =
-    (b : Bench) → FormedBench b → validBench b ≡ true → (bytes : List (ℕ × ℕ)) (k : ℕ) → k < converterCount
+    (b : Bench) → validBench b ≡ true → (bytes : List (ℕ × ℕ)) (k : ℕ) → k < converterCount
     → at (benchAfter b bytes) k ≡ after (at b k) (bytesTo k bytes)
 
 -- A power-up that is accepted gives a bench that passes 13.
@@ -54,7 +54,7 @@ pub record NextValid (b : Bench) : Type 0 where
 
 -- A bench that passes 13 leads only to benches that pass it.
 abbrev pub StaysValid : Type 0
-StaysValid = (b : Bench) → FormedBench b → validBench b ≡ true → NextValid b
+StaysValid = (b : Bench) → validBench b ≡ true → NextValid b
 
 -- 32 zero bytes on one line, or more, bring that converter back to waiting and leave the others as they were
 pub record LedToWaiting (b : Bench) (k : ℕ) : Type 0 where
@@ -63,4 +63,4 @@ pub record LedToWaiting (b : Bench) (k : ℕ) : Type 0 where
 
 -- Wherever a bench's converters stand, 32 zero bytes bring the one that they are for back to waiting.
 abbrev pub ReachesWaiting : Type 0
-ReachesWaiting = (b : Bench) → FormedBench b → validBench b ≡ true → (k : ℕ) → k < converterCount → LedToWaiting b k
+ReachesWaiting = (b : Bench) → validBench b ≡ true → (k : ℕ) → k < converterCount → LedToWaiting b k

@@ -88,7 +88,7 @@ module _ (b : Bench) (f : FormedBench b) (x : Submission) where
     plan-is = rw v
 
     sent-is : sent b x ≡ withConverter b k u
-    sent-is = ap (benchAfter b) plan-is ∙ run-one k below bytes b (f .size) v
+    sent-is = ap (benchAfter b) plan-is ∙ run-one k below bytes b v
 
     own : at (sent b x) k ≡ u
     own = ap (λ (d : Bench). at d k) sent-is ∙ at-same b k (f .size) below u
@@ -116,7 +116,7 @@ module _ (b : Bench) (f : FormedBench b) (x : Submission) where
         idle-deselect u (rw (← full .next) (full .passes)) still (ap (λ (c : Converter). c .output) (full .rest))
 
     passes : validBench (withConverter b k u) ≡ true
-    passes = with-valid b k below (f .size) u v (rw (← full .next) (full .passes))
+    passes = with-valid b v k below u (rw (← full .next) (full .passes))
 
     rise-is : benchDeselected (withConverter b k u) k ≡ benchMoved none (withConverter b k u)
     unfolding benchDeselected lineRefusal
@@ -138,7 +138,7 @@ module _ (b : Bench) (f : FormedBench b) (x : Submission) where
         record {
           converter = rw number (names-mapped k (r .field) (r .channel) below takes ∙ eq-eqb k k refl);
           bytes = rw number plan-is;
-          unrefused = ap (benchRunRefusals b) plan-is ∙ run-refusals k below bytes b (f .size) v ∙ full .unrefused
+          unrefused = ap (benchRunRefusals b) plan-is ∙ run-refusals k below bytes b v ∙ full .unrefused
               ∙ ap (λ (n : ℕ). replicate n none) (sym length-is);
           values = λ i lt. rw own (full .values i lt);
           fields = field-is;

@@ -30,10 +30,10 @@ use Rattle.bench_grants.specs.Claims.{GrantKeepsValid, GrantMovesOneOwne
 
 pub grant-keeps-valid : GrantKeepsValid
 unfolding benchGranted
-grant-keeps-valid b f caller receiver n v =
+grant-keeps-valid b caller receiver n v =
     let k = converterOf n in
     let h = below-four n in
-    rw v (with-valid b k h (f .size) (granted (at b k) caller receiver (localChannel n) .next) v
+    rw v (with-valid b v k h (granted (at b k) caller receiver (localChannel n) .next)
     (one.grant-keeps-valid (at b k) caller receiver (localChannel n) (each-valid b v k h)))
 
 -- an entry of the lists of eight, one after the other

@@ -20,7 +20,7 @@ GrantsAsWorded =
 -- From a bench that passes 13, every grant leads to one that passes it.
 abbrev pub GrantKeepsValid : Type 0
 GrantKeepsValid =
-    (b : Bench) → FormedBench b → (caller receiver n : ℕ) → validBench b ≡ true → validBench (benchGranted b caller receiver n .next) ≡ true
+    (b : Bench) (caller receiver n : ℕ) → validBench b ≡ true → validBench (benchGranted b caller receiver n .next) ≡ true
 
 -- accepted, entry n of the bench's 32 owners is the receiver's and no other changed; refused, the bench is as given; all but the owners stays in any case
 pub record OneOwnerMoves (b : Bench) (receiver n : ℕ) (answer : BenchMoved) : Type 0 where

@@ -131,7 +131,7 @@ module _ (b : Bench) (h : FormedBench b) (t : Bench) (c : Values) (held : HeldBe
       let still : valid u ≡ true = rw (← sent-plan (at t j) f (localised x)) (after-valid (plan (at t j) (localised x)) (at t j) (each-valid t w j lt)) in
       rw w (record {
         size = length-set (t .converters) j u ∙ held .size;
-        judges = with-valid t j lt (held .size) u w still ∙ sym v;
+        judges = with-valid t w j lt u still ∙ sym v;
         each = each-with t j (held .size) lt (λ i (d : Converter). one.Held (at b i) d (here i (cellsAfter b c x))) u
             (recelled (one.held-next (at b j) (at t j) (here j c) (held .each j lt) (localised x)) (set-here b h c x j (rw (v, eq-eqb j j refl))))
             (λ i l ne. recelled (held .each i l) (kept-here b h c x i l (rw (v, ne-eqb j i (λ z. ne (sym z))))));

@@ -1,7 +1,7 @@
 -- Every list of requests follows the reference model: by induction on the list, with HeldBench as its invariant.
 use Prim.Native.Nat.{ℕ, _<_}
 use mathlib.Core.Path.{_≡_, refl, sym, _∙_, ap}
-use mathlib.Core.Bool.{Bool, true, false, cond, _&&_, _||_}
+use mathlib.Core.Bool.{Bool, true, cond, _&&_, _||_}
 use mathlib.Core.List.{List, [], _∷_, flatten}
 use borrow.Author.Tests.{eqb-true, eqb-false}
 use lib.Dec.{eqb}
@@ -85,7 +85,7 @@ sent-one b t c held x =
     let k = target x in
     let lt = below-four (x .request .channel) in
     split (validBench t)
-    (λ v. rw (nextBench, v) (run-one k lt (plan (at t k) (localised x)) t (held .size) v
+    (λ v. rw (nextBench, v) (run-one k lt (plan (at t k) (localised x)) t v
     ∙ ap (λ (u : Converter). withConverter t k u) (sent-plan (at t k) (held .each k lt .formed) (localised x))))
     (λ v. rw (nextBench, v))
 

@@ -1,5 +1,4 @@
 -- A reading's rail is its code's, and the two reading calls are refused together: the channel's converter answers both.
-use mathlib.Core.Path.{_≡_, refl}
 use Rattle.cases.proofs.Cases.{split}
 use Rattle.ads1299_codes.specs.Rails.{standsFor, railOf}
 use Rattle.readings.proofs.Refusals as single

@@ -69,7 +69,7 @@ samples-read-back b f k codes p q m hp hq e c =
     let s = at b k in
     let w = sampled s codes p q .next in
     let same = at-same b k (f .size) (l .number) w in
-    let next-valid = with-valid b k (l .number) (f .size) w (l .state) (stays-valid s (each-valid b (l .state) k (l .number)) .by-sample codes p q) in
+    let next-valid = with-valid b (l .state) k (l .number) w (stays-valid s (each-valid b (l .state) k (l .number)) .by-sample codes p q) in
     let there = rw channel at (channels (benchChannel k m)) in
     let owner : ownerOf (benchOwners b) (benchChannel k m) ≡ ownerOf (s .owners) m =
     owner-at b f (benchChannel k m) (sym there ∙ c) ∙ rw (converter, channel) in
