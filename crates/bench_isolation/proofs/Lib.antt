@@ -4,3 +4,4 @@ pub mod Own
 pub mod Plans
 pub mod Merges
 pub mod Figures
+pub mod Unused

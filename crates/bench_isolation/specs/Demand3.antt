@@ -23,9 +23,8 @@ use Rattle.bench_isolation.specs.Reference.{referenceNumbers, referenceC
 use Rattle.bench_isolation.specs.Lists.{numbers, plans, end, touched}
 use Rattle.bench_isolation.specs.Merges.{lastAccepted, AllAlike}
 
--- a list of requests from a bench: the numbers are the reference model's; each field ends as its cell; of each converter, every bit of no
--- field ends as it began, and so does all else, but its output is empty once a request for it was accepted; the bench keeps its shape; and a
--- second bench, begun equal, that takes the accepted plans' bytes, each on its converter's line, ends equal
+-- a list of requests from a bench: what isolation.Demand3.FollowsReference says, with bits of no field and all else converter by converter; a
+-- converter's output is emptied by an accepted request of its own alone, and the second bench is sent each byte for its converter
 pub record FollowsReference (b : Bench) (l : List Submission) : Type 0 where
   pub reference-numbers : numbers b l ≡ referenceNumbers b l
   pub fields : (f n : ℕ) → benchNamed f n ≡ true → benchField (end b l) f n ≡ referenceCells b l f n

@@ -1,12 +1,14 @@
 -- The reference model of the bench (document 01: the chart): a cell for each field and number, 89 for each converter, and a step that knows
 -- no register and no byte.
 use Prim.Native.Nat.{ℕ}
+use mathlib.Core.Path.{_≡_}
 use mathlib.Core.Bool.{cond}
 use mathlib.Core.List.{List, [], _∷_}
 use Rattle.refusal.specs.First.{firstOf, accepted}
 use Rattle.ads1299_settings.specs.Settings.{Values, withValues}
 use Rattle.planner.specs.Submission.{Submission}
 use Rattle.planner.specs.Settings.{settings}
+use Rattle.planner.specs.Unused.{numbered}
 use Rattle.bench.specs.declared.Bench.{Bench}
 use Rattle.bench_planner.specs.Fields.{benchField}
 use Rattle.bench_planner.specs.Refusals.{benchRefusals}
@@ -37,3 +39,8 @@ referenceNumbers first l = numbersFrom first (benchField first) l
 -- gives the reference model's cells after a list of requests
 abbrev pub referenceCells : Bench → List Submission → Values
 referenceCells first l = cellsFrom first (benchField first) l
+
+-- The reference model looks at no value that a request's field does not use.
+pub record UnusedByReference : Type 0 where
+  pub same-number : (first : Bench) (cells : Values) (x : Submission) → referenceNumber first cells (numbered x) ≡ referenceNumber first cells x
+  pub same-cells : (first : Bench) (cells : Values) (x : Submission) (f n : ℕ) → cellsAfter first cells (numbered x) f n ≡ cellsAfter first cells x f n

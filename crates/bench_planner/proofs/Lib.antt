@@ -1,2 +1,4 @@
 pub mod Worded
 pub mod Channels
+pub mod Placement
+pub mod Unused
