@@ -1,10 +1,10 @@
--- Benches that pass 13 lead to such benches; zero bytes lead back to waiting.
+-- Benches that pass 13 lead to such benches; zero bytes lead back to waiting; the rise of an idle converter's line changes nothing.
 use Prim.Native.Nat.{ℕ, _+_, _-_, _<_}
-use mathlib.Core.Path.{_≡_}
+use mathlib.Core.Path.{_≡_, ap}
 use mathlib.Core.Bool.{true}
 use mathlib.Core.List.{List}
 use native.Mathlib.Omega.{arith}
-use borrow.Author.Tests.{eqb-true}
+use borrow.Author.Tests.{eqb-true, lt-ltb}
 use lib.ListN.{getD, replicate}
 use Rattle.cases.proofs.Cases.{split}
 use Rattle.refusal.specs.Numbers.{none}
@@ -22,10 +22,10 @@ use Rattle.lines.specs.Lines.{converterCount}
 use Rattle.bench.specs.declared.Bench.{Bench}
 use Rattle.bench.specs.Bench.{at, withConverter, validBench}
 use Rattle.bench.specs.PowerUp.{validIds, started, benchPoweredUp}
-use Rattle.bench.specs.Line.{lineRefusal, benchStepped, benchDeselected, benchSampled}
-use Rattle.bench.specs.Claims.{PowersUpValid, NextValid, StaysValid, ReachesWaiting}
+use Rattle.bench.specs.Line.{lineRefusal, benchMoved, benchStepped, benchDeselected, benchSampled}
+use Rattle.bench.specs.Claims.{PowersUpValid, NextValid, StaysValid, ReachesWaiting, IdleDeselect}
 use Rattle.bench.proofs.Line.{clear}
-use Rattle.bench.proofs.Converters.{every-passes, at-valid, at-other, each-valid, with-valid}
+use Rattle.bench.proofs.Converters.{with-same, every-passes, at-valid, at-other, each-valid, with-valid}
 use Rattle.bench.proofs.Run.{run-one}
 
 -- power-up
@@ -79,3 +79,8 @@ reaches-waiting b v k h =
           (zeros (at b k) (each-valid b v k h) more);
       others = λ count j ne. rw (run-one k h (replicate count 0) b v) (at-other b k (after (at b k) (replicate count 0)) j ne);
     }
+
+pub idle-deselect : IdleDeselect
+unfolding benchDeselected lineRefusal
+idle-deselect b v k h waits empty =
+    rw (v, lt-ltb k converterCount h, converter-waiting.idle-deselect (at b k) (each-valid b v k h) waits empty) (ap (benchMoved none) (with-same b k))

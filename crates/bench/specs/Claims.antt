@@ -6,6 +6,7 @@ use mathlib.Core.List.{List}
 use lib.IntN.{ℤ}
 use lib.ListN.{replicate}
 use Rattle.refusal.specs.Numbers.{none}
+use Rattle.ads1299_serial.specs.declared.Output.the-variants.{Empty}
 use Rattle.ads1299_serial.specs.declared.Phase.the-variants.{Waiting}
 use Rattle.ads1299_serial.specs.Transfers.{mostRegisters}
 use Rattle.ads1299.specs.Run.{after}
@@ -16,7 +17,7 @@ use Rattle.bench.specs.declared.Bench.{Bench}
 use Rattle.bench.specs.Bench.{at, validBench, benchOwners}
 use Rattle.bench.specs.Formed.{FormedBench}
 use Rattle.bench.specs.PowerUp.{benchPoweredUp}
-use Rattle.bench.specs.Line.{benchStepped, benchDeselected, benchSampled}
+use Rattle.bench.specs.Line.{benchMoved, benchStepped, benchDeselected, benchSampled}
 use Rattle.bench.specs.Run.{bytesFor, bytesTo, benchAfter}
 
 -- The owner of each of the 32 channels is its owner in its own converter's list of eight.
@@ -64,3 +65,9 @@ pub record LedToWaiting (b : Bench) (k : ℕ) : Type 0 where
 -- Wherever a bench's converters stand, 32 zero bytes bring the one that they are for back to waiting.
 abbrev pub ReachesWaiting : Type 0
 ReachesWaiting = (b : Bench) → validBench b ≡ true → (k : ℕ) → k < converterCount → LedToWaiting b k
+
+-- A select rise changes nothing of a bench where the line's converter waits with nothing pending.
+abbrev pub IdleDeselect : Type 0
+IdleDeselect =
+    (b : Bench) → validBench b ≡ true → (k : ℕ) → k < converterCount → at b k .phase ≡ Waiting → at b k .output ≡ Empty
+    → benchDeselected b k ≡ benchMoved none b

@@ -4,7 +4,7 @@ use mathlib.Core.Path.{_≡_, refl, sym, _∙_, ap}
 use mathlib.Core.Bool.{true, false, _&&_}
 use mathlib.Core.List.{List}
 use native.Mathlib.Omega.{arith}
-use borrow.Author.Tests.{eqb-true, eqb-false, eq-eqb, ne-eqb, lt-ltb}
+use borrow.Author.Tests.{eqb-true, eqb-false, eq-eqb, ne-eqb}
 use lib.Dec.{eqb}
 use lib.ListN.{length, length-map, replicate}
 use Rattle.cases.specs.Every.{anyOf}
@@ -13,10 +13,7 @@ use Rattle.refusal.specs.Numbers.{none}
 use Rattle.refusal.proofs.First.{exact}
 use Rattle.ads1299_registers.specs.Addresses.{channelCount}
 use Rattle.ads1299.specs.declared.Converter.{Converter}
-use Rattle.ads1299.specs.State.{moved}
-use Rattle.ads1299.specs.Deselect.{deselected}
 use Rattle.ads1299.specs.Run.{after}
-use Rattle.ads1299.proofs.Waiting.{idle-deselect}
 use Rattle.ads1299_settings.specs.Settings.{Setting}
 use Rattle.request.specs.declared.Request.{Request}
 use Rattle.planner.specs.Submission.{Submission}
@@ -30,9 +27,10 @@ use Rattle.lines.proofs.Numbering.{below-four}
 use Rattle.bench.specs.declared.Bench.{Bench}
 use Rattle.bench.specs.Bench.{at, withConverter, validBench}
 use Rattle.bench.specs.Formed.{FormedBench}
-use Rattle.bench.specs.Line.{lineRefusal, benchMoved, benchDeselected}
+use Rattle.bench.specs.Line.{benchMoved, benchDeselected}
 use Rattle.bench.specs.Run.{bytesFor, benchAfter, benchRunRefusals}
-use Rattle.bench.proofs.Converters.{at-same, at-other, with-again, with-same, with-valid}
+use Rattle.bench.proofs.Converters.{at-same, at-other, with-same, with-valid}
+use Rattle.bench.proofs.StaysValid.{idle-deselect}
 use Rattle.bench.proofs.Run.{run-one, run-refusals}
 use Rattle.bench_planner.specs.Local.{target, localRequest, localised}
 use Rattle.bench_planner.specs.Fields.{benchNamed, benchField}
@@ -110,18 +108,14 @@ module _ (b : Bench) (f : FormedBench b) (x : Submission) where
         rw (c, own) (full .fields g (localChannel n) there (sets-local (x .request) g n c (low g (localChannel n) there) ∙ ne)))
         (λ q. rw (others (converterOf n) (eqb-false (converterOf n) k q)))
 
-    rises : deselected u ≡ moved none u
-    rises =
-        let still = ap (λ (c : Converter). c .phase) (full .rest) ∙ passed s (localised x) (accepted-is s (localised x) taken) .waits in
-        idle-deselect u (rw (← full .next) (full .passes)) still (ap (λ (c : Converter). c .output) (full .rest))
-
     passes : validBench (withConverter b k u) ≡ true
     passes = with-valid b v k below u (rw (← full .next) (full .passes))
 
     rise-is : benchDeselected (withConverter b k u) k ≡ benchMoved none (withConverter b k u)
-    unfolding benchDeselected lineRefusal
     rise-is =
-        rw (passes, lt-ltb k converterCount below, at-same b k (f .size) below u, rises) (ap (benchMoved none) (with-again b k u u))
+        let still = ap (λ (c : Converter). c .phase) (full .rest) ∙ passed s (localised x) (accepted-is s (localised x) taken) .waits in
+        let own-is = at-same b k (f .size) below u in
+        idle-deselect (withConverter b k u) passes k below (rw own-is still) (rw own-is (ap (λ (c : Converter). c .output) (full .rest)))
 
     length-is : length (benchPlan b x) ≡ length bytes
     length-is = ap (λ (l : List (ℕ × ℕ)). length l) plan-is ∙ length-map bytes (λ byte. (k, byte))
