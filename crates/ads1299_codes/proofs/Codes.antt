@@ -1,8 +1,9 @@
 -- Laws of codes and their words: the round trips, and what 32-bit arithmetic gives.
-use Prim.Native.Nat.{ℕ, zero, suc, _-_, _%_, _<_, _≤_}
+use Prim.Native.Nat.{ℕ, zero, suc, _+_, _-_, _%_, _^_, _<_, _≤_}
 use mathlib.Core.Path.{_≡_, refl, sym, _∙_}
 use mathlib.Core.Bool.{true, false, false≢true}
 use mathlib.Core.List.{List, [], _∷_}
+use native.Mathlib.Nat.{lt-of-lt-of-le, mod-lt}
 use native.Mathlib.Omega.{arith}
 use borrow.Author.Tests.{leb-true, le-leb, lt-ltb, le-ltb, ltb-true, ltb-false}
 use lib.Dec.{T, ltb}
@@ -56,17 +57,40 @@ all-at [] e k = refl
 all-at (z ∷ zs) e zero = and-both (inRange z) (allInRange zs) e .0
 all-at (z ∷ zs) e (suc k) = all-at zs (and-both (inRange z) (allInRange zs) e .1) k
 
+-- the sign word added within 24 bits and taken off again
+offset : (w : ℕ) → w < wordCount → pos ((w + signWord) % wordCount) -ℤ pos signWord ≡ codeOf w
+unfolding codeOf
+offset w h =
+    split (ltb w signWord)
+    (λ t.
+    let l = ltb-true w signWord t in
+    let m : (w + signWord) % wordCount ≡ w + signWord = omega arith in
+    let e : w + signWord - signWord ≡ w = omega arith in
+    simp (t, m, le-ltb (w + signWord) signWord (omega arith), e))
+    (λ t.
+    let l = ltb-false w signWord t in
+    let m : (w + signWord) % wordCount ≡ w - signWord = omega arith in
+    let e : signWord - suc (w - signWord) ≡ wordCount - 1 - w = omega arith in
+    simp (t, m, lt-ltb (w - signWord) signWord (omega arith), high w h, e))
+
+-- a number less another, in 32-bit arithmetic
+less-fits : (m k : ℕ) → m < 2 ^ 31 → k < 2 ^ 31 → SFits w32 (pos m -ℤ pos k)
+less-fits m zero hm hk = record { sfits = omega arith }
+less-fits m (suc k) hm hk =
+    split (ltb m (suc k))
+    (λ t. simp t (record { sfits = omega arith }))
+    (λ t. simp t (record { sfits = omega arith }))
+
+pub remainder-fits : (x n k : ℕ) → zero < n → n ≤ 2 ^ 31 → k < 2 ^ 31 → SFits w32 (toZ w32 (x % n) -ℤ pos k)
+remainder-fits x n k positive small hk =
+    let below = lt-of-lt-of-le (mod-lt x positive) small in
+    rw (toZ-pos w32 below) (less-fits (x % n) k below hk)
+
 -- the code of a word in 32-bit arithmetic
-pub low-code : (w : ℕ) → w < signWord → toZ w32 w ≡ codeOf w
-unfolding codeOf
-low-code w h = toZ-pos w32 {n = w} (omega arith) ∙ simp (lt-ltb w signWord h)
-
-pub high-fits : (w : ℕ) → w < wordCount → SFits w32 (toZ w32 w -ℤ pos wordCount)
-high-fits w h = simp (toZ-pos w32 {n = w} (omega arith), high w h) (record { sfits = omega arith })
-
-pub high-code : (w : ℕ) → w < wordCount → signWord ≤ w → toZ w32 (ofZ w32 (toZ w32 w -ℤ pos wordCount)) ≡ codeOf w
-unfolding codeOf
-high-code w h l = toZ-ofZ (high-fits w h) ∙ simp (toZ-pos w32 {n = w} (omega arith), le-ltb w signWord l)
+pub offset-code : (w : ℕ) → w < wordCount → toZ w32 (ofZ w32 (toZ w32 ((w + signWord) % wordCount) -ℤ pos signWord)) ≡ codeOf w
+offset-code w h =
+    toZ-ofZ (remainder-fits (w + signWord) wordCount signWord (omega arith) (omega arith) (omega arith))
+    ∙ rw (toZ-pos w32 {n = (w + signWord) % wordCount} (omega arith)) (offset w h)
 
 -- the word of a code in 32-bit arithmetic
 pub record Negative (z : ℤ) : Type 0 where

@@ -56,16 +56,12 @@ pub fn all_in_range(codes: &[i32]) -> bool
     true
 }
 
-// The code of three bytes, high byte first.
+// The code of three bytes, high byte first. There is no branch: adding SIGN_WORD within 24 bits takes the words from it on round to 0, and taking it off again leaves them below zero.
 fn code(high: u8, middle: u8, low: u8) -> i32
     ensures { λ r. ⌜ r ≡ codeOf (word high middle low) ⌝ }
 {
     let word = (high as u32) * 0x10000 + (middle as u32) * 0x100 + (low as u32);
-    if word < SIGN_WORD {
-        word as i32
-    } else {
-        word as i32 - WORD_COUNT as i32
-    }
+    ((word + SIGN_WORD) % WORD_COUNT) as i32 - SIGN_WORD as i32
 }
 
 // The rail of a code.

@@ -1,7 +1,6 @@
 use Rattle.ads1299_codes.proofs.code.Statement.{statement}
 use Rattle.ads1299_codes.proofs.code.Tie as tie
-use Rattle.ads1299_codes.proofs.Codes.{low-code, high-fits, high-code}
-use Rattle.ads1299_codes.proofs.Words.{word-small}
+use Rattle.ads1299_codes.proofs.Codes.{remainder-fits, offset-code}
 use Rattle.ads1299_codes.specs.Words.{word}
 use Prim.Native.Nat.{ℕ}
 use borrow.Author.Needs.{needs}
@@ -17,6 +16,5 @@ code-spec =
     tie.close
     (tie.spec
     (λ c. search needs) (λ c. search needs) (λ c. search needs) (λ c. search needs) (λ c. search needs) (λ c. search needs) (λ c. search needs)
-    (λ c. search (needs, high-fits, word-small))
-    (λ c. low-code (bits (c .before)) (omega arith))
-    (λ c. high-code (bits (c .before)) (omega arith) (omega arith)))
+    (λ c. search (needs, remainder-fits))
+    (λ c. offset-code (bits c) (omega arith)))
