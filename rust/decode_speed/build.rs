@@ -1,9 +1,9 @@
 //! Builds the proved `ads1299_codes::code` by itself: the product's crate with that one function exported and not a line
 //! else changed, proved anew and compiled by the kit as the product is. It is private there, and the library has it inlined.
 
-use std::fs;
 use std::path::{Path, PathBuf};
 use std::process::Command;
+use std::{env, fs};
 
 /// The crate, and the one that its proofs need.
 const CRATES: [&str; 2] = ["cases", "ads1299_codes"];
@@ -33,9 +33,9 @@ fn export_code(copy: &Path) {
 }
 
 fn main() {
-    let top = Path::new(env!("CARGO_MANIFEST_DIR")).join("../..");
+    let top = PathBuf::from(env::var("CARGO_MANIFEST_DIR").unwrap()).join("../..");
     // Below the repository's target/, where rt takes no file of Rattle for one that is left unproved.
-    let copy: PathBuf = top.join("target/decode_speed");
+    let copy = top.join("target/decode_speed");
     let _ = fs::remove_dir_all(&copy);
     for name in CRATES {
         let folder = top.join("crates").join(name);
@@ -54,7 +54,9 @@ fn main() {
         "{}",
         String::from_utf8_lossy(&built.stdout)
     );
-    let archive = copy.join("target/staticlib");
-    println!("cargo:rustc-link-search=native={}", archive.display());
+    let folder = copy.join("target/staticlib");
+    let archive = folder.join("libads1299_codes.a");
+    println!("cargo:rerun-if-changed={}", archive.display());
+    println!("cargo:rustc-link-search=native={}", folder.display());
     println!("cargo:rustc-link-lib=static=ads1299_codes");
 }

@@ -32,7 +32,7 @@ extern "C" fn old_code(high: u8, middle: u8, low: u8) -> i32 {
     }
 }
 
-/// Either of them: both are called through a pointer, so that neither is inlined into the loop that calls it.
+/// Either of them. Both are called through a pointer, one code at a time, as a reading decodes: neither is inlined into the loop.
 type Decode = unsafe extern "C" fn(u8, u8, u8) -> i32;
 
 /// How many different words are decoded again and again; their bytes stay in the cache.
@@ -121,7 +121,7 @@ fn count_instructions(name: &str) -> Option<u64> {
 fn compare_instructions() {
     let counts = count_instructions("old_code").zip(count_instructions("code"));
     let Some((old, new)) = counts else {
-        println!("no instruction count: valgrind is not installed");
+        println!("no instruction count: valgrind is not installed, or gave none");
         return;
     };
     println!("instructions of {COUNTED} codes, by callgrind:");
