@@ -51,8 +51,9 @@ fn main() {
         .expect("rt is not on the PATH");
     assert!(
         built.status.success(),
-        "{}",
-        String::from_utf8_lossy(&built.stdout)
+        "{}{}",
+        String::from_utf8_lossy(&built.stdout),
+        String::from_utf8_lossy(&built.stderr)
     );
     let folder = copy.join("target/staticlib");
     let archive = folder.join("libads1299_codes.a");
