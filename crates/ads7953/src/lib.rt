@@ -1,5 +1,6 @@
 // The ADS7953, a 12-bit converter with a 16-channel multiplexer, followed frame by frame (document 02, No. 6): its state by value, and
 // what power-up and a frame make of it.
+#![tactic(auto)]
 ghost use Rattle.std.specs.Prelude.{◌≡◌};
 ghost use Rattle.ads7953.specs.Modes.{mode_number};
 

@@ -1,1 +1,2 @@
 // Theorems only: demand 1 of the ADS7953.
+#![tactic(auto)]

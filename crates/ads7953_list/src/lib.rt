@@ -1,4 +1,5 @@
 // The planner of the ADS7953's auto-1 channel list (document 02, No. 6): the administrator alone sends it, and sends it whole.
+#![tactic(auto)]
 ghost use Rattle.std.specs.Prelude.{◌≡◌, ◌≤◌, length};
 ghost use Rattle.splice.specs.Splice.{spliced, room_at};
 ghost use Rattle.ads7953_list.specs.Planned.{list_plan, list_plan_length, list_refusal, list_planned, list_tx_after};

@@ -1,1 +1,2 @@
 // Theorems only: demand 1 on the bench.
+#![tactic(auto)]

@@ -1,1 +1,2 @@
 // Theorems only: demand 2 on the bench.
+#![tactic(auto)]

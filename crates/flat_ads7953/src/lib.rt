@@ -1,4 +1,5 @@
 // The flat form of an ADS7953's state, for other languages: from a state to its bytes and back, and which bytes stand for a state.
+#![tactic(auto)]
 ghost use Rattle.std.specs.Prelude.{◌≡◌};
 ghost use Rattle.flat_ads7953.specs.Flat.{flat_part, are_flags, is_part, mode_of, part_of};
 

@@ -1,4 +1,5 @@
 // From a setting request to the bytes that the converter is sent.
+#![tactic(auto)]
 mod fields;
 mod lengths;
 

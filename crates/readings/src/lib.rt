@@ -1,4 +1,5 @@
 // Readings: what a channel's owner sees of a frame.
+#![tactic(auto)]
 ghost use Rattle.std.specs.Prelude.{◌≡◌, ◌+◌};
 ghost use Rattle.readings.specs.Reading.{reading_refusal, channel_reading, part_bytes, part_place};
 

@@ -56,4 +56,4 @@ part_spliced at buffer bytes part h e =
     let l = length-drop at buffer in
     let a : take (length buffer - at) (drop at buffer) ≡ drop at buffer = take_all (length buffer - at) (drop at buffer) (omega arith) in
     let b : drop (length buffer - at) (drop at buffer) ≡ [] = drop_of_length-le (drop at buffer) {i = length buffer - at} (omega arith) in
-    simp (e, a, b, zero-add, drop-drop, append_assoc) (ap (λ (r : List ℕ). take at buffer ++ r) (append-nil (bytes ++ drop (at + length bytes) buffer)))
+    simp (e, a, b, zero-add, drop-drop, append_assoc) (ap (λ (r : List ℕ). take at buffer ++ (bytes ++ r)) (append-nil (drop (at + length bytes) buffer)))

@@ -1,4 +1,5 @@
 // The program's input and output, which no contract can speak of: all else is console's.
+#![tactic(auto)]
 use libc::{STDIN_FILENO, STDOUT_FILENO};
 
 // Reads standard input to its end, or to one byte more than is taken, and writes the transcript. A read that fails ends the input.
