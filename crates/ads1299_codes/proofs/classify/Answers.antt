@@ -12,4 +12,4 @@ pub returns-then-code-eq-HIGHEST : goal.returns-then-code-eq-HIGHEST
 returns-then-code-eq-HIGHEST c = sym (ap rail_of (from_word _ _ c.ranges.code c.if-code-eq-HIGHEST.true) ∙ highest_there)
 
 pub returns : goal.returns
-returns c = c.if-code-eq-HIGHEST.false (ap (of_z w32) e)))
+returns c = sym (elsewhere _ (λ e. c.if-code-eq-LOWEST.false (ap (of_z w32) e)) (λ e. c.if-code-eq-HIGHEST.false (ap (of_z w32) e)))
