@@ -9,7 +9,7 @@ mod validity;
 use ads1299_serial::{Output, Phase};
 
 // The order of the fields keeps each array at a multiple of 16 bytes.
-#[derive(Drop)]
+#[derive(Clone, Copy)]
 pub struct Converter {
     pub registers: [u8; ads1299_registers::COUNT],
     pub owners: [u8; ads1299_registers::CHANNELS],
@@ -22,20 +22,20 @@ pub struct Converter {
     pub phase: Phase,
 }
 
-#[derive(Drop)]
+#[derive(Clone, Copy)]
 pub struct PoweredUp {
     pub refusal: u8,
     pub converter: Converter,
 }
 
-#[derive(Drop)]
+#[derive(Clone, Copy)]
 pub struct Stepped {
     pub refusal: u8,
     pub out: u8,
     pub next: Converter,
 }
 
-#[derive(Drop)]
+#[derive(Clone, Copy)]
 pub struct Moved {
     pub refusal: u8,
     pub next: Converter,

@@ -19,7 +19,7 @@ const WORD_COUNT: u32 = 0x1000000;
 const SIGN_WORD: u32 = 0x800000;
 
 // Which end of the range a code sits at, if at any.
-#[derive(Drop)]
+#[derive(Clone, Copy)]
 pub enum Rail {
     Neither,
     Lowest,
@@ -27,7 +27,7 @@ pub enum Rail {
 }
 
 // What three bytes decode to: the code and its rail.
-#[derive(Drop)]
+#[derive(Clone, Copy)]
 pub struct Decoded {
     pub code: i32,
     pub rail: Rail,

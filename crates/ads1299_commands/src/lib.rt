@@ -25,7 +25,7 @@ pub const RREG: u8 = 0x20;
 pub const WREG: u8 = 0x40;
 
 // What a byte means while the converter waits.
-#[derive(Drop)]
+#[derive(Clone, Copy)]
 pub enum Command {
     Wakeup,
     Standby,

@@ -20,7 +20,7 @@ pub const CHANNEL_FIELDS: u32 = 9;
 pub const WHOLE_CHANNEL: u32 = 30;
 
 // A row of the map: where a field lies, and which value of it is refused.
-#[derive(Drop)]
+#[derive(Clone, Copy)]
 struct Entry(
     usize, // register, of channel 1 if the field is a channel's
     usize, // how far that moves from one channel to the next
@@ -31,7 +31,7 @@ struct Entry(
 );
 
 // A field of a register, by its lowest bit and its width.
-#[derive(Drop)]
+#[derive(Clone, Copy)]
 pub struct Place {
     pub register: u8,
     pub bit: u8,

@@ -16,14 +16,14 @@ const FURTHEST: u8 = LAST_ADDRESS + MOST_REGISTERS;
 // The place of a frame's last byte, from 0.
 const LAST_PLACE: u8 = ads1299_frame::LENGTH as u8 - 1;
 
-#[derive(Drop)]
+#[derive(Clone, Copy)]
 pub enum Direction {
     Read,
     Write,
 }
 
 // A register read or write: the next address, and how many registers are left (0 until the second byte has come).
-#[derive(Drop)]
+#[derive(Clone, Copy)]
 pub struct Transfer {
     pub direction: Direction,
     pub address: u8,
@@ -31,7 +31,7 @@ pub struct Transfer {
 }
 
 // Where the converter stands in a command.
-#[derive(Drop)]
+#[derive(Clone, Copy)]
 pub enum Phase {
     Waiting,
     // The first byte of a register read or write has come.
@@ -41,7 +41,7 @@ pub enum Phase {
 }
 
 // What is being shifted out: nothing, or the frame from a place on.
-#[derive(Drop)]
+#[derive(Clone, Copy)]
 pub enum Output {
     Empty,
     At(u8),

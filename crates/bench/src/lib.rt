@@ -11,25 +11,25 @@ use ads1299::Converter;
 use lines::CONVERTERS;
 
 // Owners stay with each converter: four times eight are the bench's 32.
-#[derive(Drop)]
+#[derive(Clone, Copy)]
 pub struct Bench {
     pub converters: [Converter; CONVERTERS],
 }
 
-#[derive(Drop)]
+#[derive(Clone, Copy)]
 pub struct BenchPoweredUp {
     pub refusal: u8,
     pub bench: Bench,
 }
 
-#[derive(Drop)]
+#[derive(Clone, Copy)]
 pub struct BenchStepped {
     pub refusal: u8,
     pub out: u8,
     pub next: Bench,
 }
 
-#[derive(Drop)]
+#[derive(Clone, Copy)]
 pub struct BenchMoved {
     pub refusal: u8,
     pub next: Bench,

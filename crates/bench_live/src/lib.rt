@@ -11,7 +11,7 @@ use bench_planner::BenchPlanned;
 use request::Request;
 
 // What the planner answers beside the bench.
-#[derive(Drop)]
+#[derive(Clone, Copy)]
 pub struct Answer {
     pub refusal: u8,
     pub converter: u32,

@@ -14,7 +14,7 @@ use request::Request;
 
 // The number of the converter that every byte of the plan is for, the plan's length, and the bench after the plan, to which its bytes
 // are not to be fed again.
-#[derive(Drop)]
+#[derive(Clone, Copy)]
 pub struct BenchPlanned {
     pub refusal: u8,
     pub converter: u32,

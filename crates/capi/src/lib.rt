@@ -15,14 +15,14 @@ use flat_bench::FlatBench;
 use request::Request;
 
 #[repr(C)]
-#[derive(Drop)]
+#[derive(Clone, Copy)]
 pub struct FlatPoweredUp {
     pub refusal: u8,
     pub converter: FlatConverter,
 }
 
 #[repr(C)]
-#[derive(Drop)]
+#[derive(Clone, Copy)]
 pub struct FlatStepped {
     pub refusal: u8,
     pub out: u8,
@@ -30,7 +30,7 @@ pub struct FlatStepped {
 }
 
 #[repr(C)]
-#[derive(Drop)]
+#[derive(Clone, Copy)]
 pub struct FlatMoved {
     pub refusal: u8,
     pub next: FlatConverter,
@@ -38,7 +38,7 @@ pub struct FlatMoved {
 
 // A channel's code with the number of its rail, and its bits of P and N, 0 or 1.
 #[repr(C)]
-#[derive(Drop)]
+#[derive(Clone, Copy)]
 pub struct FlatReading {
     pub refusal: u8,
     pub p: u8,
@@ -49,7 +49,7 @@ pub struct FlatReading {
 
 // A channel's bytes as a place in the caller's own frame.
 #[repr(C)]
-#[derive(Drop)]
+#[derive(Clone, Copy)]
 pub struct FlatPart {
     pub refusal: u8,
     pub start: usize,
@@ -57,7 +57,7 @@ pub struct FlatPart {
 }
 
 #[repr(C)]
-#[derive(Drop)]
+#[derive(Clone, Copy)]
 pub struct FlatParsed {
     pub refusal: u8,
     pub request: Request,
@@ -65,14 +65,14 @@ pub struct FlatParsed {
 }
 
 #[repr(C)]
-#[derive(Drop)]
+#[derive(Clone, Copy)]
 pub struct FlatWritten {
     pub refusal: u8,
     pub used: usize,
 }
 
 #[repr(C)]
-#[derive(Drop)]
+#[derive(Clone, Copy)]
 pub struct FlatPlanned {
     pub refusal: u8,
     pub length: usize,
@@ -80,14 +80,14 @@ pub struct FlatPlanned {
 }
 
 #[repr(C)]
-#[derive(Drop)]
+#[derive(Clone, Copy)]
 pub struct FlatBenchPoweredUp {
     pub refusal: u8,
     pub bench: FlatBench,
 }
 
 #[repr(C)]
-#[derive(Drop)]
+#[derive(Clone, Copy)]
 pub struct FlatBenchStepped {
     pub refusal: u8,
     pub out: u8,
@@ -95,14 +95,14 @@ pub struct FlatBenchStepped {
 }
 
 #[repr(C)]
-#[derive(Drop)]
+#[derive(Clone, Copy)]
 pub struct FlatBenchMoved {
     pub refusal: u8,
     pub next: FlatBench,
 }
 
 #[repr(C)]
-#[derive(Drop)]
+#[derive(Clone, Copy)]
 pub struct FlatBenchPlanned {
     pub refusal: u8,
     pub converter: u32,

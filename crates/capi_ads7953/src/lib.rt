@@ -11,7 +11,7 @@ use ads7953::Ads7953;
 use flat_ads7953::FlatAds7953;
 
 #[repr(C)]
-#[derive(Drop)]
+#[derive(Clone, Copy)]
 pub struct FlatFramed {
     pub refusal: u8,
     pub reply: u16,
@@ -19,7 +19,7 @@ pub struct FlatFramed {
 }
 
 #[repr(C)]
-#[derive(Drop)]
+#[derive(Clone, Copy)]
 pub struct FlatListPlanned {
     pub refusal: u8,
     pub length: usize,

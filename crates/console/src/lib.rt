@@ -24,7 +24,7 @@ const LONGEST_LINE: usize = 3 * planner::LONGEST + 2;
 pub const LONGEST_TRANSCRIPT: usize = (INPUT_LIMIT - 1) / request::FEWEST_NUMBERS * LONGEST_LINE;
 
 // What one request leaves: how many bytes are done with, the place after its line, and the state.
-#[derive(Drop)]
+#[derive(Clone, Copy)]
 struct Turn {
     used: usize,
     place: usize,

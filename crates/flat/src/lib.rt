@@ -11,7 +11,7 @@ pub use forward::{flag_code, flatten};
 // A converter's state as bytes, by value. output, phase and direction are codes, the flags 0 or 1 (codes.rt). Each state has one
 // flat form: what an empty output or a waiting converter does not use is 0. Other bytes stand for no state (refusal 13).
 #[repr(C)]
-#[derive(Drop)]
+#[derive(Clone, Copy)]
 pub struct FlatConverter {
     pub registers: [u8; ads1299_registers::COUNT],
     pub owners: [u8; ads1299_registers::CHANNELS],

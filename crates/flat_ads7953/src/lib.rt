@@ -14,7 +14,7 @@ const AUTO2: u8 = 2;
 // A state as numbers, by value; the flags are 0 or 1, the mode its number. Each state has one flat form. Other bytes stand for no state
 // (refusal 13).
 #[repr(C)]
-#[derive(Drop)]
+#[derive(Clone, Copy)]
 pub struct FlatAds7953 {
     pub list: u16,
     pub mode: u8,

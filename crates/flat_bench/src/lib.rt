@@ -8,7 +8,7 @@ use flat::FlatConverter;
 use lines::CONVERTERS;
 
 #[repr(C)]
-#[derive(Drop)]
+#[derive(Clone, Copy)]
 pub struct FlatBench {
     pub converters: [FlatConverter; CONVERTERS],
 }

@@ -15,7 +15,7 @@ pub const GROUPS: usize = 2;
 pub const LARGEST: u32 = BASE * BASE - 1;
 
 // What reading answers: the number and the count of its bytes.
-#[derive(Drop)]
+#[derive(Clone, Copy)]
 pub struct Number {
     pub refusal: u8,
     pub value: u32,
@@ -23,7 +23,7 @@ pub struct Number {
 }
 
 // A number's bytes, of which the first `used` count; the others are 0.
-#[derive(Drop)]
+#[derive(Clone, Copy)]
 pub struct Encoded {
     pub refusal: u8,
     pub bytes: [u8; GROUPS],

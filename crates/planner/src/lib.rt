@@ -28,7 +28,7 @@ use request::Request;
 pub const LONGEST: usize = 14;
 
 // The plan's length and the state after the plan, whose bytes are not to be fed to that state again.
-#[derive(Drop)]
+#[derive(Clone, Copy)]
 pub struct Planned {
     pub refusal: u8,
     pub length: usize,

@@ -7,7 +7,7 @@ use ads1299::Converter;
 use ads1299_codes::{Rail, WORD_LENGTH};
 
 // A channel's code with its rail, and its bits of P and N.
-#[derive(Drop)]
+#[derive(Clone, Copy)]
 pub struct Reading {
     pub refusal: u8,
     pub code: i32,

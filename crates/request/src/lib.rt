@@ -27,7 +27,7 @@ const LONGEST: usize = MOST_NUMBERS * leb128::GROUPS;
 
 // A request for a whole channel uses all values, every other one the first alone.
 #[repr(C)]
-#[derive(Drop)]
+#[derive(Clone, Copy)]
 pub struct Request {
     pub field: u32,
     pub channel: u32,
@@ -35,7 +35,7 @@ pub struct Request {
 }
 
 // What reading answers: the request and the count of its bytes.
-#[derive(Drop)]
+#[derive(Clone, Copy)]
 pub struct Parsed {
     pub refusal: u8,
     pub request: Request,
@@ -43,14 +43,14 @@ pub struct Parsed {
 }
 
 // What writing answers: the count of the bytes written.
-#[derive(Drop)]
+#[derive(Clone, Copy)]
 pub struct Written {
     pub refusal: u8,
     pub used: usize,
 }
 
 // Numbers as they are read, 0 past the last; on a refusal all are 0.
-#[derive(Drop)]
+#[derive(Clone, Copy)]
 struct Numbers {
     refusal: u8,
     numbers: [u32; MOST_NUMBERS],
@@ -58,7 +58,7 @@ struct Numbers {
 }
 
 // A request's bytes before they are copied, of which the first `used` count; the others are 0.
-#[derive(Drop)]
+#[derive(Clone, Copy)]
 struct Staged {
     bytes: [u8; LONGEST],
     used: usize,
