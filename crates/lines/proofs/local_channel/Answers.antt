@@ -1,0 +1,19 @@
+use Rattle.lines.specs.Lines.{local_channel}
+use borrow.Author.Tests.{eq-eqb, le-leb, lt-leb, ne_eqb}
+use Rattle.lines.proofs.local_channel.Goals as goal
+
+pub returns-then-channel-eq0 : goal.returns-then-channel-eq0
+unfolding local_channel
+returns-then-channel-eq0 c = simp (le-leb _ _ c.if-channel-le-LAST_CHANNEL.true, eq-eqb _ _ c.if-channel-eq0.true)
+
+pub returns-else-channel-eq0 : goal.returns-else-channel-eq0
+unfolding local_channel
+returns-else-channel-eq0 c = simp (le-leb _ _ c.if-channel-le-LAST_CHANNEL.true, ne_eqb _ _ c.if-channel-eq0.false)
+
+pub returns-then-channel-le-LAST_NUMBER : goal.returns-then-channel-le-LAST_NUMBER
+unfolding local_channel
+returns-then-channel-le-LAST_NUMBER c = simp (lt-leb _ _ c.if-channel-le-LAST_CHANNEL.false, le-leb _ _ c.if-channel-le-LAST_NUMBER.true)
+
+pub returns-else-channel-le-LAST_NUMBER : goal.returns-else-channel-le-LAST_NUMBER
+unfolding local_channel
+returns-else-channel-le-LAST_NUMBER c = simp (lt-leb _ _ c.if-channel-le-LAST_CHANNEL.false, lt-leb _ _ c.if-channel-le-LAST_NUMBER.false)
