@@ -8,9 +8,7 @@ use Rattle.ads1299.specs.declared.Converter.{Converter}
 use Rattle.ads1299.specs.State.{with_registers, with_latest}
 use Rattle.ads1299.specs.Output.{loaded}
 use Rattle.ads1299.specs.Sample.{with_status, framed, taken}
-use Rattle.ads1299.proofs.Converter.take.Statement.{statement}
-use Rattle.ads1299.proofs.Converter.take.Tie as tie
-use borrow.Author.Rules.{rules}
+use Rattle.ads1299.proofs.Converter.take.Goals as goal
 
 module _ (s : Converter) (codes : List ℤ) (p n : ℕ) (registers latest : List ℕ)
     (r : registers ≡ with_status s.registers p n) (f : latest ≡ frame_of registers codes p n) where
@@ -23,12 +21,8 @@ module _ (s : Converter) (codes : List ℤ) (p n : ℕ) (registers latest : List
   unfolding taken framed
   keeps c = rw (f, r, c)
 
-pub take_spec : {M : Type 1} → statement M
-take_spec =
-    tie.close
-    (tie.spec
-    (λ c κs. search rules)
-    (λ c κs. search rules)
-    (λ c κs. search rules)
-    (λ c. c.load.ensures ∙ loads c.before.before.before.before.before.before.before.args.self _ _ _ _ _ c.before.before.before.before.before.with-status.ensures c.before.before.before.before.build.ensures c.before.if1.true)
-    (λ c. keeps c.before.before.before.before.before.before.args.self _ _ _ _ _ c.before.before.before.before.with-status.ensures c.before.before.before.build.ensures c.if1.false))
+pub returns-then-next : goal.returns-then-next
+returns-then-next c = c.load.ensures ∙ loads c.args.self _ _ _ _ _ c.with_status-registers.ensures c.build-latest.ensures c.if-next.true
+
+pub returns-else-next : goal.returns-else-next
+returns-else-next c = keeps c.args.self _ _ _ _ _ c.with_status-registers.ensures c.build-latest.ensures c.if-next.false
