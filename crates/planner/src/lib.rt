@@ -83,8 +83,8 @@ fn put(tx: &mut [u8], at: usize, bytes: &[u8]) -> usize
     requires { at + length bytes.now ≤ length tx.old }
     ensures { (result ≡ at + length bytes.now) × (tx.new ≡ spliced tx.old at bytes.now) }
 {
-    let count = bytes::copy(bytes, &mut tx[at..]);
-    at + count
+    tx[at..at + bytes.len()].copy_from_slice(bytes);
+    at + bytes.len()
 }
 
 // Writes a byte where it is wanted, and gives the place after it.

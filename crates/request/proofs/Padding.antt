@@ -6,8 +6,10 @@ use native.Mathlib.Omega.{arith}
 use borrow.Author.Tests.{le-leb}
 use borrow.Rule.Slice.PartMut.{put_mid}
 use lib.ListN.{length, take, drop, replicate, length-append, length-replicate, replicate-append-replicate, drop_of_length-le}
-use lib.Seq.{take_all, take-length, take-append_seam, drop-append_seam, drop_at}
+use lib.Seq.{take_all, take-length, take-append_seam, drop-append_seam, drop_at, drop-drop}
 use Rattle.refusal.specs.Numbers.{none}
+use Rattle.splice.specs.Splice.{spliced}
+use Rattle.splice.proofs.Splice.{copied_to}
 use Rattle.leb128.specs.declared.Encoded.{Encoded}
 use Rattle.leb128.specs.Numbers.{groups, largest}
 use Rattle.leb128.specs.Encoding.{encoded, padded, encoded_array}
@@ -58,18 +60,16 @@ module _ (e : Staged) (l : List ℕ) (is : e ≡ staged l) where
   used_within = rw (used_is, bytes_is, length-append) (omega arith)
 
 -- an array that holds l, after bytes e, padded too, were copied into it behind l
-fill : (m g : ℕ) (l e ys : List ℕ) → length l + g ≤ m → length e ≤ g
-    → ys ≡ take (length (padded g e)) (padded g e) ++ drop (length (padded g e)) (take (m - length l) (drop (length l) (padded m l)))
-    → put_mid (length l) (m - length l) (padded m l) ys ≡ padded m (l ++ e)
+fill : (m g : ℕ) (l e : List ℕ) → length l + g ≤ m → length e ≤ g → spliced (padded m l) (length l) (padded g e) ≡ padded m (l ++ e)
 unfolding padded
-fill m g l e ys h k q =
+fill m g l e h k =
     let room = m - length l in
     let n = length_padded g e k in
-    let all : take room (zeros room) ≡ zeros room = take_all room (zeros room) (omega (arith, length_zeros room)) in
-    let nothing : drop room (zeros room) ≡ [] = drop_of_length-le (zeros room) {i = room} (omega (arith, length_zeros room)) in
+    let head : take (length l) (l ++ zeros room) ≡ l = take-append_seam l (zeros room) in
+    let tail : drop (length l + g) (l ++ zeros room) ≡ zeros (room - g) =
+        sym (drop-drop g (length l) (l ++ zeros room)) ∙ ap (λ (x : List ℕ). drop g x) (drop-append_seam l (zeros room)) ∙ drop_zeros g room (omega arith) in
     let size : g - length e + (room - g) ≡ m - length (l ++ e) = omega (arith, length-append l e) in
-    rw (q, take-length, drop-append_seam, take-append_seam, all, nothing, n, drop_zeros g room (omega arith), append-nil)
-    (simp (append_assoc, join_zeros, size))
+    rw (n, head, tail) (simp (append_assoc, join_zeros, size))
 
 -- a number that is not too large, as the encoder gives it
 pub array_of : (n : ℕ) → n ≤ largest groups → encoded_array n ≡ record { refusal = none; bytes = padded groups (encoded groups n); used = length (encoded groups n) }
@@ -83,13 +83,15 @@ module _ (before : Staged) (l : List ℕ) (is : before ≡ staged l) (n : ℕ) (
   bytes_more : more.bytes ≡ padded groups (encoded groups n)
   bytes_more = ap (λ (x : Encoded). x.bytes) (new ∙ array_of n small)
 
-  pub appended : before.used + groups ≤ longest → (ys : List ℕ)
-      → ys ≡ take (length more.bytes) more.bytes ++ drop (length more.bytes) (take (longest - before.used) (drop before.used before.bytes))
-      → ◌≡◌ {A = Staged} (record { bytes = put_mid before.used (longest - before.used) before.bytes ys; used = before.used + more.used }) (staged (l ++ encoded groups n))
+  pub appended : before.used + groups ≤ longest → (ys : List ℕ) (size : ℕ) → ys ≡ more.bytes → size ≡ groups
+      → ◌≡◌ {A = Staged} (record { bytes = put_mid before.used size before.bytes ys; used = before.used + more.used }) (staged (l ++ encoded groups n))
   unfolding staged
-  appended h ys q =
+  appended h ys size q z =
       let s = (round_trip groups (omega arith)).sized n in
       let u = used_is before l is in
       let b = bytes_is before l is in
-      let p = fill longest groups l (encoded groups n) ys (omega arith) s.most (rw (u, b, bytes_more) at q) in
+      let c = length_padded groups (encoded groups n) s.most in
+      let p = ap (put_mid (length l) size (padded longest l)) (q ∙ bytes_more)
+          ∙ copied_to (length l) size (padded longest l) (padded groups (encoded groups n)) (omega arith)
+          ∙ fill longest groups l (encoded groups n) (omega arith) s.most in
       rw (u, b, used_more, length-append) (λ i. record { bytes = p i; used = length l + length (encoded groups n) })

@@ -197,7 +197,7 @@ fn append(before: Staged, number: u32) -> Staged
     let at = before.used;
     let mut all = before.bytes;
     let new = more.bytes;
-    bytes::copy(&new, &mut all[at..]);
+    all[at..at + new.len()].copy_from_slice(&new);
     Staged {
         bytes: all,
         used: at + more.used,
@@ -239,7 +239,7 @@ pub fn write(request: Request, buffer: &mut [u8]) -> Written
             };
         }
         let all = staged.bytes;
-        bytes::copy(&all[..used], buffer);
+        buffer[..used].copy_from_slice(&all[..used]);
         return Written {
             refusal: refusal::NONE,
             used: used,

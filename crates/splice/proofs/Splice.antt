@@ -57,3 +57,7 @@ part_spliced at buffer bytes part h e =
     let a : take (length buffer - at) (drop at buffer) ≡ drop at buffer = take_all (length buffer - at) (drop at buffer) (omega arith) in
     let b : drop (length buffer - at) (drop at buffer) ≡ [] = drop_of_length-le (drop at buffer) {i = length buffer - at} (omega arith) in
     simp (e, a, b, zero-add, drop-drop, append_assoc) (ap (λ (r : List ℕ). take at buffer ++ (bytes ++ r)) (append-nil (drop (at + length bytes) buffer)))
+
+-- bytes copied to a part that is as long as they are
+pub copied_to : (at n : ℕ) (buffer bytes : List ℕ) → n ≡ length bytes → put_mid at n buffer bytes ≡ spliced buffer at bytes
+copied_to at n buffer bytes e = rw e (simp (drop-drop, append_assoc) (λ i. take at buffer ++ (bytes ++ drop (at + length bytes) buffer)))
