@@ -1,0 +1,36 @@
+-- The loop keeps that the settings that are left lead to the same registers.
+use native.Mathlib.Omega.{arith}
+use Prim.Native.Nat.{◌-◌, ◌≤◌, ◌<◌}
+use mathlib.Core.Path.{◌≡◌, sym, ap, ◌∙◌}
+use Rattle.ads1299_settings.specs.Settings.{with_settings}
+use Rattle.request.specs.Requests.{most_values, value_count}
+use Rattle.planner.specs.Settings.{settings_from}
+use Rattle.planner.specs.Plan.{registers_after}
+use Rattle.planner.proofs.Settings.{settings_start, value_within, settings_step, settings_end}
+use Rattle.planner.proofs.fields.set_all.Goals as goal
+
+pub loop-done-init : goal.loop-done-init
+unfolding registers_after
+loop-done-init c = let n = c.count_values-count in
+    let a = c.args in
+    (n.ensures, (omega arith, ap (with_settings a.registers a.request.channel) (settings_start a.request n.result n.ensures)))
+
+-- one setting made, and the rest
+pub loop-done-preserved : goal.loop-done-preserved
+unfolding with_settings
+loop-done-preserved c = let l = c.before.before.before in
+    let r = l.args.request in (
+      l.loop-done.invariant.0,
+      (
+        omega (arith, c.loop-done-test.true),
+        l.loop-done.invariant.1.1
+            ∙ ap (with_settings l.loop-done.after r.channel) (settings_step r l.count_values-count.result l.loop-done.done c.loop-done-test.true)
+            ∙ simp (c.write-set.ensures, c.field_at-field.ensures),
+      ),
+    )
+
+pub returns : goal.returns
+unfolding with_settings
+returns c = let l = c.before in
+    let r = l.args.request in
+    sym (l.loop-done.invariant.1.1 ∙ ap (with_settings l.loop-done.after r.channel) (settings_end r l.count_values-count.result l.loop-done.done c.loop-done-test.false))
