@@ -1,6 +1,6 @@
 -- What the code's arrays have, read out of what a bench owns: four converters, each of whole arrays of bytes.
 use Prim.Native.Nat.{ℕ, zero, suc, ◌<◌}
-use mathlib.Core.List.{List, [], ◌∷◌, map}
+use mathlib.Core.List.{List, [], ◌∷◌}
 use native.Mathlib.Omega.{arith}
 use borrow.Author.Rules.{rules}
 use lib.ListN.{length, get_or}
@@ -16,7 +16,7 @@ use Rattle.bench.specs.Bench.{blank}
 byte : (n : ℕ) → Fits w8 n → n < 256
 byte n f = f.fits
 
-formed_of : (s : Converter) (u : Val) → shadow ((S.the_field).row.own_val ((S.the_field).into s) (u ∷ [])) → Formed s
+formed_of : (s : Converter) (u : Val) → shadow ((S.the_row).own_val s (u ∷ [])) → Formed s
 formed_of s u p =
     record {
       registers = record { size = search rules; bytes = λ i. byte (get_or s.registers i 0) (search rules) };
@@ -25,7 +25,7 @@ formed_of s u p =
       shifting = record { size = search rules; bytes = λ i. byte (get_or s.shifting i 0) (search rules) };
     }
 
-pub each_formed : (l : List Converter) (us : List Val) → shadow (each (S.the_field).row.Denot (S.the_field).row.own_val (map (S.the_field).into l) us)
+pub each_formed : (l : List Converter) (us : List Val) → shadow (each (S.the_row).Denot (S.the_row).own_val l us)
     → (k : ℕ) → k < length l → Formed (get_or l k blank)
 each_formed [] us p k h = absurd (omega (arith, h))
 each_formed (s ∷ l) [] p k h = absurd p
