@@ -1,0 +1,6 @@
+use Rattle.ads7953.specs.Frame.{selected, followed}
+use Rattle.ads7953.proofs.Ads7953.follow.Goals as goal
+
+pub returns : goal.returns
+unfolding followed selected
+returns c = c.latch.ensures
