@@ -4,14 +4,14 @@ use mathlib.Core.Bool.{Bool, true, false, cond, ◌||◌, false≢true}
 use mathlib.Core.Path.{◌≡◌, refl, sym, ap, ◌∙◌}
 use native.Mathlib.Omega.{arith}
 use lib.Dec.{eqb}
-use Rattle.cases.proofs.Cases.{split, either}
+use Rattle.cases.proofs.Cases.{either}
 use Rattle.bits.specs.Fields.{field, bit}
 use Rattle.ads7953.specs.declared.Mode.{Mode}
 use Rattle.ads7953.specs.declared.words.Command.{Command}
 use Rattle.ads7953.specs.declared.words.Command.TheVariants.{Continue, SelectManual, SelectAuto1, SelectAuto2, ProgramAuto1, ProgramAuto2}
 use Rattle.ads7953.specs.declared.Ads7953.{Ads7953}
 use Rattle.ads7953.specs.Words.{MANUAL, AUTO1, AUTO2, PROGRAM_AUTO1, PROGRAM_AUTO2, top, decoded, programs, retained, resets_counter, selects_range2, channel_in, last_in}
-use Rattle.ads7953.specs.Latch.{advanced, programmed, manual_latched, auto_ordered, auto_latched, commanded, latched}
+use Rattle.ads7953.specs.Latch.{advanced, programmed, manual_latched, auto_latched, commanded, latched}
 use Rattle.ads7953.specs.Claims.{Retained, SettingsRetained, is_wanted, UnwantedContinue, LowBitsUnread}
 use Rattle.ads7953.proofs.Latched.{as_command, zero_advances}
 

@@ -2,24 +2,23 @@
 use Prim.Native.Nat.{ℕ, zero, suc, ◌+◌, ◌<◌}
 use mathlib.Core.Bool.{Bool, true, false, cond}
 use mathlib.Core.List.{List, [], ◌∷◌}
-use mathlib.Core.Path.{◌≡◌, refl, sym, ap, ◌∙◌}
+use mathlib.Core.Path.{◌≡◌, refl, ap}
 use native.Mathlib.Nat.{not-suc-le-zero, le_of_suc-le-suc}
 use native.Mathlib.Omega.{arith}
 use borrow.Author.Tests.{ltb-true, lt-leb}
 use lib.Dec.{ltb}
 use lib.ListN.{length, get_or}
-use Rattle.cases.proofs.Cases.{split, and_both}
+use Rattle.cases.proofs.Cases.{and_both}
 use Rattle.refusal.specs.Numbers.{none}
 use Rattle.ads7953.specs.declared.words.Command.{Command}
 use Rattle.ads7953.specs.declared.words.Command.TheVariants.{Continue, SelectManual, SelectAuto1, SelectAuto2, ProgramAuto1, ProgramAuto2}
 use Rattle.ads7953.specs.declared.Ads7953.{Ads7953}
-use Rattle.ads7953.specs.declared.Framed.{Framed}
 use Rattle.ads7953.specs.State.{with_channel, with_first}
 use Rattle.ads7953.specs.Words.{decoded}
 use Rattle.ads7953.specs.Latch.{advanced, programmed, restarts, manual_latched, auto_ordered, auto_latched, commanded, latched}
 use Rattle.ads7953.specs.Frame.{valid, code_count, frame_refusal, replied, reply, selected, followed, framed}
 use Rattle.ads7953.specs.Run.{Sent, words_of, codes_of, codes_fit, replies, orders}
-use Rattle.ads7953.specs.Lag.{Lagging, RepliedTwoLater}
+use Rattle.ads7953.specs.Lag.{RepliedTwoLater}
 use Rattle.ads7953.proofs.Valid.{parts, whole}
 use Rattle.ads7953.proofs.StaysValid.{followed_valid}
 

@@ -1,6 +1,6 @@
 -- A word that neither finds nor selects auto-1 mode does the same with any list.
 use Prim.Native.Nat.{ℕ}
-use mathlib.Core.Bool.{Bool, true, false, cond, ◌&&◌, false≢true}
+use mathlib.Core.Bool.{Bool, true, false, cond, false≢true}
 use mathlib.Core.List.{List, [], ◌∷◌}
 use mathlib.Core.Path.{◌≡◌, refl, sym, ap, ◌∙◌, subst}
 use Rattle.cases.proofs.Cases.{split, and_both}
@@ -10,14 +10,13 @@ use Rattle.ads7953.specs.declared.Mode.TheVariants.{Manual, Auto1, Auto2}
 use Rattle.ads7953.specs.declared.words.Command.{Command}
 use Rattle.ads7953.specs.declared.words.Command.TheVariants.{Continue, SelectManual, SelectAuto1, SelectAuto2, ProgramAuto1, ProgramAuto2}
 use Rattle.ads7953.specs.declared.Ads7953.{Ads7953}
-use Rattle.ads7953.specs.declared.Framed.{Framed}
 use Rattle.ads7953.specs.State.{with_ordered, with_list, with_programming}
 use Rattle.ads7953.specs.Words.{decoded}
 use Rattle.ads7953.specs.Scan.{next_in}
 use Rattle.ads7953.specs.Latch.{advanced, programmed, restarts, manual_latched, auto_ordered, auto_latched, commanded, latched}
 use Rattle.ads7953.specs.Frame.{valid, frame_refusal, reply, selected, followed, framed}
 use Rattle.ads7953.specs.Run.{Sent, after, replies}
-use Rattle.ads7953.specs.OutsideAuto1.{not_auto1, outside_auto1, SameButList, ListInAuto1Alone}
+use Rattle.ads7953.specs.OutsideAuto1.{not_auto1, outside_auto1, ListInAuto1Alone}
 
 -- the next channel is the same with any list
 pub next_same : (mode : Mode) (list other last x : ℕ) → not_auto1 mode ≡ true → next_in mode other last x ≡ next_in mode list last x

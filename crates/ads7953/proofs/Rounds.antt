@@ -1,11 +1,11 @@
 -- A mode goes from each channel of its round to the next, and from the last back to the first.
 use Prim.Native.Nat.{ℕ, zero, suc, ◌+◌, ◌-◌, ◌%◌, ◌≤◌, ◌<◌}
-use mathlib.Core.Bool.{Bool, true, false, cond, false≢true}
+use mathlib.Core.Bool.{Bool, true, false}
 use mathlib.Core.List.{List, [], ◌∷◌}
 use mathlib.Core.Path.{◌≡◌, refl, sym, ap, ◌∙◌}
 use native.Mathlib.Nat.{zero-add, mod-lt, zero-mod, mod-eq_of_lt, mod_self, mod-one, suc-mod, not-suc-le-zero}
 use native.Mathlib.Omega.{arith}
-use borrow.Author.Tests.{ltb-true, ltb-false, lt-ltb, le-ltb, leb-true, leb-false, le-leb, lt-leb}
+use borrow.Author.Tests.{ltb-true, ltb-false, lt-ltb, le-ltb, le-leb, lt-leb}
 use lib.Dec.{ltb, leb}
 use lib.ListN.{length, get_or, drop, replicate, drop_of_length-le}
 use lib.Seq.{drop-cons}
@@ -15,8 +15,8 @@ use Rattle.ads7953.specs.declared.Mode.TheVariants.{Manual, Auto1, Auto2}
 use Rattle.ads7953.specs.declared.words.Command.{Command}
 use Rattle.ads7953.specs.declared.Ads7953.{Ads7953}
 use Rattle.ads7953.specs.Words.{decoded, channel_in}
-use Rattle.ads7953.specs.Scan.{channel_count, listed, listed_among, listed_from, lowest_listed, next_listed, next_up_to, next_in, start_in}
-use Rattle.ads7953.specs.Latch.{advanced, programmed, restarts, manual_latched, auto_ordered, auto_latched, commanded, latched}
+use Rattle.ads7953.specs.Scan.{channel_count, listed, listed_among, listed_from, lowest_listed, next_listed, next_up_to, next_in}
+use Rattle.ads7953.specs.Latch.{advanced, programmed, manual_latched, auto_ordered, auto_latched, commanded, latched}
 use Rattle.ads7953.specs.Frame.{valid}
 use Rattle.ads7953.specs.Run.{orders}
 use Rattle.ads7953.specs.Rounds.{channels_from, channels, round, selecting, starts_anew, RoundsRepeat}

@@ -1,6 +1,6 @@
 -- What refusal 13 and a frame's refusals leave.
 use Prim.Native.Nat.{ℕ, ◌<◌}
-use mathlib.Core.Bool.{Bool, true, false, not}
+use mathlib.Core.Bool.{true}
 use mathlib.Core.Path.{◌≡◌, refl}
 use borrow.Author.Tests.{ltb-true, lt-ltb, leb-false, not-false}
 use lib.Dec.{ltb}

@@ -1,6 +1,7 @@
 // The ADS7953, a 12-bit converter with a 16-channel multiplexer, followed frame by frame (document 02, No. 6): its state by value, and
 // what power-up and a frame make of it.
 #![tactic(auto)]
+
 ghost use Rattle.std.specs.Prelude.{◌≡◌};
 ghost use Rattle.ads7953.specs.Modes.{mode_number};
 
@@ -13,7 +14,7 @@ mod words;
 pub const CHANNELS: u8 = 16;
 
 // How the channels are sequenced.
-#[derive(Drop)]
+#[derive(Clone, Copy)]
 pub enum Mode {
     Manual,
     Auto1,
@@ -21,7 +22,7 @@ pub enum Mode {
 }
 
 // A word asks for a channel (`ordered`), the next frame's multiplexer takes it (`channel`), and the frame after that replies it.
-#[derive(Drop)]
+#[derive(Clone, Copy)]
 pub struct Ads7953 {
     pub mode: Mode,
     pub channel: u8,
@@ -34,7 +35,7 @@ pub struct Ads7953 {
     pub first: bool, // no frame since power-up
 }
 
-#[derive(Drop)]
+#[derive(Clone, Copy)]
 pub struct Framed {
     pub refusal: u8,
     pub reply: u16,

@@ -50,6 +50,7 @@ fn next_listed(list: u16, present: u8) -> u8
 }
 
 // The channel after the present one, up to the last, then 0.
+#[tactic(auto, unfolding(crate::specs::Scan::next_up_to))]
 fn next_up_to(last: u8, present: u8) -> u8
     ensures { result ≡ next_up_to last present }
 {

@@ -13,7 +13,7 @@ const PROGRAM_AUTO1: u16 = 8;
 
 const PROGRAM_AUTO2: u16 = 9;
 
-#[derive(Drop)]
+#[derive(Clone, Copy)]
 pub(crate) enum Command {
     Continue,
     SelectManual,

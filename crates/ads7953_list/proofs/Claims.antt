@@ -4,8 +4,7 @@ use mathlib.Core.Bool.{Bool, true, false}
 use mathlib.Core.List.{List, [], ◌∷◌}
 use mathlib.Core.Path.{◌≡◌, refl, sym, ap, ◌∙◌}
 use native.Mathlib.Omega.{arith}
-use borrow.Author.Tests.{eqb-true, eqb-false, eq-eqb, ne_eqb}
-use lib.ListN.{length}
+use borrow.Author.Tests.{eqb-true, eq-eqb, ne_eqb}
 use Rattle.cases.proofs.Cases.{split}
 use Rattle.refusal.specs.Numbers.{none}
 use Rattle.refusal.specs.First.{accepted}
@@ -17,8 +16,8 @@ use Rattle.ads7953.specs.declared.Mode.TheVariants.{Manual, Auto1, Auto2}
 use Rattle.ads7953.specs.declared.Ads7953.{Ads7953}
 use Rattle.ads7953.specs.State.{state, with_channel, with_ordered, with_list, with_first}
 use Rattle.ads7953.specs.Scan.{next_listed, next_in}
-use Rattle.ads7953.specs.Latch.{advanced, latched}
-use Rattle.ads7953.specs.Frame.{valid, code_count, reply, framed}
+use Rattle.ads7953.specs.Latch.{advanced}
+use Rattle.ads7953.specs.Frame.{valid, code_count, reply}
 use Rattle.ads7953.specs.Run.{Sent, sent, after, replies}
 use Rattle.ads7953.specs.OutsideAuto1.{not_auto1}
 use Rattle.ads7953.proofs.Latched.{as_list, programming_entered, zero_advances}

@@ -5,7 +5,6 @@ use Rattle.splice.specs.Splice.{room_at}
 use Rattle.ads7953.specs.declared.Ads7953.{Ads7953}
 use Rattle.ads7953.specs.State.{with_last, with_programming}
 use Rattle.ads7953.specs.Frame.{powered_up}
-use Rattle.ads7953_list.specs.declared.ListPlanned.{ListPlanned}
 use Rattle.ads7953_list.specs.Planned.{list_planned, list_tx_after}
 
 -- gives a buffer of six bytes

@@ -1,5 +1,6 @@
 // The planner of the ADS7953's auto-1 channel list (document 02, No. 6): the administrator alone sends it, and sends it whole.
 #![tactic(auto)]
+
 ghost use Rattle.std.specs.Prelude.{◌≡◌, ◌≤◌, length};
 ghost use Rattle.splice.specs.Splice.{spliced, room_at};
 ghost use Rattle.ads7953_list.specs.Planned.{list_plan, list_plan_length, list_refusal, list_planned, list_tx_after};
@@ -10,7 +11,7 @@ use ads7953::Ads7953;
 pub const LENGTH: usize = 4;
 
 // A plan's answer; a state after is not part of it, since the plan is sent in frames that have codes.
-#[derive(Drop)]
+#[derive(Clone, Copy)]
 pub struct ListPlanned {
     pub refusal: u8,
     pub length: usize,
@@ -40,7 +41,7 @@ fn write_list(part: &mut [u8], list: u16)
     ensures { part.new ≡ spliced part.old 0 (list_plan list) }
 {
     let plan = [0x80, 0x00, (list / 256) as u8, (list % 256) as u8];
-    bytes::copy(&plan, part);
+    part[..LENGTH].copy_from_slice(&plan);
 }
 
 // Plans a list, bit n for channel n: the plan goes into the transmit buffer (document 01: sheet) from a place on, and all else there

@@ -1,5 +1,6 @@
 // The flat form of an ADS7953's state, for other languages: from a state to its bytes and back, and which bytes stand for a state.
 #![tactic(auto)]
+
 ghost use Rattle.std.specs.Prelude.{◌≡◌};
 ghost use Rattle.flat_ads7953.specs.Flat.{flat_part, are_flags, is_part, mode_of, part_of};
 
@@ -58,6 +59,7 @@ fn are_flags(range2: u8, reset: u8, programming: u8, first: u8) -> bool
 }
 
 // Whether the bytes stand for a state. Whether a part can be in that state is judged by each call.
+#[tactic(auto, unfolding(crate::specs::Flat::is_part))]
 pub fn is_part(part: FlatAds7953) -> bool
     ensures { result ≡ is_part part }
 {
