@@ -1,6 +1,7 @@
 // One eight-channel ADS1299, followed byte by byte: its state by value, and what power-up, a byte, a select rise and a sample
 // make of it. Each entry point judges the state that it is given (refusal 13).
 #![tactic(auto)]
+
 mod power_up;
 mod sample;
 mod step;

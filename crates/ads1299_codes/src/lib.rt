@@ -1,5 +1,6 @@
 // 24-bit conversion codes, the three bytes of each (document 01, "Samples and frames"), and whether one sits on the rail (document 02, No. 3).
 #![tactic(auto)]
+
 ghost use Rattle.std.specs.Prelude.{◌≡◌};
 ghost use Rattle.ads1299_codes.specs.Codes.{in_range, all_in_range, word_of, code_of};
 ghost use Rattle.ads1299_codes.specs.Words.{word, word_bytes};

@@ -1,5 +1,6 @@
 // The commands of the ADS1299's serial interface: which byte is which, and which of them act.
 #![tactic(auto)]
+
 ghost use Rattle.std.specs.Prelude.{◌≡◌};
 ghost use Rattle.ads1299_commands.specs.Commands.{register_command, decoded, is_wakeup, acts_awake, acts};
 

@@ -1,6 +1,7 @@
 // The fields of the registers: with which channel each is named, where it lies, and which values it takes. Every number
 // is judged as it comes, and never cut to a byte before.
 #![tactic(auto)]
+
 mod map;
 
 ghost use Rattle.std.specs.Prelude.{◌≡◌, ◌-◌};

@@ -1,5 +1,6 @@
 // The frame of a sample: nine words of 24 bits, each three bytes (document 01, "Samples and frames").
 #![tactic(auto)]
+
 ghost use Rattle.std.specs.Prelude.{◌≡◌, ◌*◌, ◌<◌, ◌≤◌};
 ghost use Rattle.splice.specs.Splice.{spliced};
 ghost use Rattle.ads1299_registers.specs.Addresses.{channel_count};

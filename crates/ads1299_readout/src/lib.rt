@@ -1,5 +1,6 @@
 // What a frame says of a channel (document 01, "Samples and frames"; the rail by document 02, No. 3).
 #![tactic(auto)]
+
 ghost use Rattle.std.specs.Prelude.{◌≡◌, ◌-◌, get_or};
 ghost use Rattle.bits.specs.Fields.{bit};
 ghost use Rattle.ads1299_codes.specs.Rails.{decoded};

@@ -1,6 +1,7 @@
 // The ADS1299's registers by their data sheet names, for code, and its channels by number. specs/Addresses.antt has the same names
 // for definitions.
 #![tactic(auto)]
+
 ghost use Rattle.std.specs.Prelude.{◌≡◌};
 ghost use Rattle.ads1299_registers.specs.Channels.{is_channel};
 

@@ -1,5 +1,6 @@
 // The serial interface of the ADS1299: register transfers, and the frame that is shifted out.
 #![tactic(auto)]
+
 ghost use Rattle.std.specs.Prelude.{◌≡◌};
 ghost use Rattle.ads1299_serial.specs.Transfers.{is_waiting, countable, valid_phase, begun, remainder};
 ghost use Rattle.ads1299_serial.specs.Output.{pending, advanced, valid_place};

@@ -1,5 +1,6 @@
 // A field's value in the registers, replaced.
 #![tactic(auto)]
+
 ghost use Rattle.std.specs.Prelude.{◌≡◌};
 ghost use Rattle.ads1299_settings.specs.Registers.{with_field, field_byte};
 

@@ -1,6 +1,7 @@
 // The bench: four ADS1299s on four select lines (document 02, No. 4), by value. A byte, a select rise and a sample come with the number
 // of their converter, and reach that one alone. Each entry point judges all four (refusal 13).
 #![tactic(auto)]
+
 mod power_up;
 mod step;
 

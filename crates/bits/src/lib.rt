@@ -1,5 +1,6 @@
 // A field of a byte, by its lowest bit and its width: read, replaced, and a write through a mask.
 #![tactic(auto)]
+
 ghost use Rattle.std.specs.Prelude.{◌≡◌, cond, ◌≤◌, ◌^◌};
 ghost use Rattle.bits.specs.Fields.{field, bit, inserted, insertable, masked};
 

@@ -1,5 +1,6 @@
 // Grants: the administrator moves a channel to another owner.
 #![tactic(auto)]
+
 ghost use Rattle.std.specs.Prelude.{◌≡◌, true};
 ghost use Rattle.parties.specs.Parties.{known_party};
 ghost use Rattle.ads1299_registers.specs.Channels.{is_channel};

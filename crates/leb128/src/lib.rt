@@ -1,5 +1,6 @@
 // Numbers in groups of seven bits, the lowest group first, in their shortest form only.
 #![tactic(auto)]
+
 ghost use Rattle.std.specs.Prelude.{◌≡◌};
 ghost use Rattle.leb128.specs.Numbers.{groups, refused};
 ghost use Rattle.leb128.specs.Encoding.{encoded_array};

@@ -1,6 +1,7 @@
 // Numbers on the bench: of its channels, and of its converters, which a select line each tells apart. One mapping takes a channel's number to a
 // converter and that converter's own channel, so that every rule of one converter serves as it stands.
 #![tactic(auto)]
+
 ghost use Rattle.std.specs.Prelude.{◌≡◌};
 ghost use Rattle.lines.specs.Lines.{is_converter, converter_of, local_channel, channel_on};
 

@@ -1,6 +1,7 @@
 // Parties and who owns what, by number (document 01, "The bench and its parties"). Numbers are judged as they come: none is cut to
 // a byte before.
 #![tactic(auto)]
+
 ghost use Rattle.std.specs.Prelude.{◌≡◌};
 ghost use Rattle.parties.specs.Parties.{known_party, is_admin};
 ghost use Rattle.parties.specs.Owners.{known_owners, owner_of, owns};

@@ -1,5 +1,5 @@
 -- What is claimed of values that a request's field does not use.
-use Rattle.std.specs.Prelude.{ℕ, ◌≡◌}
+use Rattle.std.specs.Prelude.{◌≡◌}
 use Rattle.ads1299.specs.declared.Converter.{Converter}
 use Rattle.ads1299_settings.specs.Settings.{Values}
 use Rattle.request.specs.declared.Request.{Request}

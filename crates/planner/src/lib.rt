@@ -1,5 +1,6 @@
 // From a setting request to the bytes that the converter is sent.
 #![tactic(auto)]
+
 mod fields;
 mod lengths;
 

@@ -1,5 +1,6 @@
 // Readings: what a channel's owner sees of a frame.
 #![tactic(auto)]
+
 ghost use Rattle.std.specs.Prelude.{◌≡◌, ◌+◌};
 ghost use Rattle.readings.specs.Reading.{reading_refusal, channel_reading, part_bytes, part_place};
 

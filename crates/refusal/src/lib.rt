@@ -1,6 +1,7 @@
 // The refusal numbers of documents 01 and 02, by name, for code, and the first that applies. specs/Numbers.antt has the same names for
 // definitions.
 #![tactic(auto)]
+
 ghost use Rattle.std.specs.Prelude.{◌≡◌};
 ghost use Rattle.refusal.specs.First.{given, first_given};
 

@@ -1,12 +1,12 @@
 -- Bytes in an array that is longer, 0 past them.
-use mathlib.Core.List.{List, [], ◌++◌, append-nil, append_assoc}
+use mathlib.Core.List.{List, ◌++◌, append-nil, append_assoc}
 use mathlib.Core.Path.{◌≡◌, sym, ap, ◌∙◌}
 use Prim.Native.Nat.{ℕ, ◌+◌, ◌-◌, ◌≤◌}
 use native.Mathlib.Omega.{arith}
 use borrow.Author.Tests.{le-leb}
 use borrow.Rule.Slice.PartMut.{put_mid}
-use lib.ListN.{length, take, drop, replicate, length-append, length-replicate, replicate-append-replicate, drop_of_length-le}
-use lib.Seq.{take_all, take-length, take-append_seam, drop-append_seam, drop_at, drop-drop}
+use lib.ListN.{length, take, drop, replicate, length-append, length-replicate, replicate-append-replicate}
+use lib.Seq.{take-append_seam, drop-append_seam, drop_at, drop-drop}
 use Rattle.refusal.specs.Numbers.{none}
 use Rattle.splice.specs.Splice.{spliced}
 use Rattle.splice.proofs.Splice.{copied_to}
@@ -67,7 +67,7 @@ fill m g l e h k =
     let n = length_padded g e k in
     let head : take (length l) (l ++ zeros room) ≡ l = take-append_seam l (zeros room) in
     let tail : drop (length l + g) (l ++ zeros room) ≡ zeros (room - g) =
-        sym (drop-drop g (length l) (l ++ zeros room)) ∙ ap (λ (x : List ℕ). drop g x) (drop-append_seam l (zeros room)) ∙ drop_zeros g room (omega arith) in
+    sym (drop-drop g (length l) (l ++ zeros room)) ∙ ap (λ (x : List ℕ). drop g x) (drop-append_seam l (zeros room)) ∙ drop_zeros g room (omega arith) in
     let size : g - length e + (room - g) ≡ m - length (l ++ e) = omega (arith, length-append l e) in
     rw (n, head, tail) (simp (append_assoc, join_zeros, size))
 
@@ -92,6 +92,6 @@ module _ (before : Staged) (l : List ℕ) (is : before ≡ staged l) (n : ℕ) (
       let b = bytes_is before l is in
       let c = length_padded groups (encoded groups n) s.most in
       let p = ap (put_mid (length l) size (padded longest l)) (q ∙ bytes_more)
-          ∙ copied_to (length l) size (padded longest l) (padded groups (encoded groups n)) (omega arith)
-          ∙ fill longest groups l (encoded groups n) (omega arith) s.most in
+      ∙ copied_to (length l) size (padded longest l) (padded groups (encoded groups n)) (omega arith)
+      ∙ fill longest groups l (encoded groups n) (omega arith) s.most in
       rw (u, b, used_more, length-append) (λ i. record { bytes = p i; used = length l + length (encoded groups n) })

@@ -1,6 +1,7 @@
 // The setting request (document 01: slip): a field, a channel and a value, or a whole channel's nine, read from bytes and written to a
 // buffer.
 #![tactic(auto)]
+
 ghost use Rattle.std.specs.Prelude.{true, ◌++◌, ◌≡◌, ◌+◌, ◌≤◌, length};
 ghost use Rattle.leb128.specs.Numbers.{groups, largest};
 ghost use Rattle.leb128.specs.Decoding.{decoded};

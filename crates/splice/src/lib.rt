@@ -1,5 +1,6 @@
 // Bytes laid over a buffer from a place on: how many it has there. What lays them is the caller's; specs/ has what it must come to.
 #![tactic(auto)]
+
 ghost use Rattle.std.specs.Prelude.{◌≡◌};
 ghost use Rattle.splice.specs.Splice.{room_at};
 

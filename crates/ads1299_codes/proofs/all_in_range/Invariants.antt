@@ -1,15 +1,8 @@
 -- The loop keeps that what is left decides: an invariant about the rest of the list, not about what was passed.
 use Rattle.ads1299_codes.specs.Codes.{all_in_range}
-use Prim.Native.Nat.{◌+◌, ◌-◌, ◌≤◌}
-use mathlib.Core.Bool.{◌&&◌}
-use lib.IntN.{pos}
-use lib.ListN.{length, get_or, drop, drop_of_length-le}
-use lib.Seq.{drop-cons}
-use mathlib.Core.Path.{◌≡◌, refl}
-use mir.Facts.{to_z-of_z}
-use mir.Syntax.{w32}
-use native.Mathlib.Numerals.{add-one}
-use native.Mathlib.Omega.{arith}
+use Prim.Native.Nat.{◌-◌, ◌≤◌}
+use lib.ListN.{length, drop}
+use mathlib.Core.Path.{◌≡◌}
 use Rattle.ads1299_codes.proofs.all_in_range.Given as goal
 
 abbrev pub invariant-loop-i : goal.invariant-loop-i

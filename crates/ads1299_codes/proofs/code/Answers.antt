@@ -1,4 +1,4 @@
-use Rattle.ads1299_codes.proofs.Codes.{remainder_fits, offset_code}
+use Rattle.ads1299_codes.proofs.Codes.{offset_code}
 use Rattle.ads1299_codes.specs.Words.{word}
 use Prim.Native.Nat.{ℕ}
 use native.Mathlib.Omega.{arith}

@@ -3,7 +3,6 @@ use mathlib.Core.Path.{◌≡◌}
 use mir.Facts.{to_z-of_z, to_z_pos}
 use mir.Syntax.{w32}
 use mir.Val.{to_z, of_z}
-use native.Mathlib.Omega.{arith}
 use Rattle.ads1299_codes.proofs.word_of.Goals as goal
 
 pub returns-then-code-lt0 : goal.returns-then-code-lt0

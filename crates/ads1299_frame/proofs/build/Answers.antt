@@ -1,8 +1,8 @@
 -- The words put so far stand at the start of the frame, and the next goes after them.
 use Rattle.ads1299_codes.specs.Words.{word_bytes, joined}
 use Rattle.ads1299_codes.proofs.Words.{length_bytes}
-use Rattle.ads1299_frame.specs.Frame.{frame_word, frame_of}
-use Prim.Native.Nat.{ℕ, ◌≤◌, ◌+◌, ◌-◌, ◌*◌}
+use Rattle.ads1299_frame.specs.Frame.{frame_of}
+use Prim.Native.Nat.{ℕ, ◌≤◌, ◌+◌, ◌*◌}
 use lib.ListN.{length, take, drop, length-append}
 use lib.Seq.{take_at, take_all, length-take-le}
 use Rattle.splice.specs.Splice.{spliced}

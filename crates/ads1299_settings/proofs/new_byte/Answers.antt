@@ -19,12 +19,12 @@ overflow_cast-value c = record { fits = (facts c.before.before).small }
 pub returns-then-is_settable : goal.returns-then-is_settable
 unfolding field_byte
 returns-then-is_settable c = simp (
-      ← c.is_settable.ensures,
-      c.if-is_settable.true,
-      c.insert.ensures,
-      c.locate-place.ensures,
-      (facts c.before.before.before).insert,
-    )
+  ← c.is_settable.ensures,
+  c.if-is_settable.true,
+  c.insert.ensures,
+  c.locate-place.ensures,
+  (facts c.before.before.before).insert,
+)
 
 pub returns-else-is_settable : goal.returns-else-is_settable
 unfolding field_byte

@@ -9,11 +9,11 @@ bounds-written-register c = rw c.locate-place.ensures (place_in_list _ _)
 pub returns-then-is_settable : goal.returns-then-is_settable
 unfolding with_field write_at field_byte
 returns-then-is_settable c = simp (
-      c.new_byte.ensures,
-      c.locate-place.ensures,
-      ← c.is_settable.ensures,
-      c.if-is_settable.true,
-    )
+  c.new_byte.ensures,
+  c.locate-place.ensures,
+  ← c.is_settable.ensures,
+  c.if-is_settable.true,
+)
 
 pub returns-else-is_settable : goal.returns-else-is_settable
 unfolding with_field write_at field_byte

@@ -1,9 +1,9 @@
-use Prim.Native.Nat.{◌/◌, ◌^◌, ◌≤◌}
+use Prim.Native.Nat.{◌^◌, ◌≤◌}
 use Rattle.bits.proofs.Fields.{field_none}
 use Rattle.bits.specs.Fields.{field}
-use lib.Pow.{pow_pos, pow_mono}
+use lib.Pow.{pow_mono}
 use mathlib.Core.Path.{sym}
-use native.Mathlib.Nat.{div-le_self, mod-eq_of_lt, mod-le}
+use native.Mathlib.Nat.{div-le_self, mod-eq_of_lt}
 use native.Mathlib.Omega.{arith}
 use Rattle.bits.proofs.read.Goals as goal
 

@@ -1,4 +1,3 @@
-use Rattle.ads1299_registers.proofs.Bounds.{bounds}
 use Rattle.parties.proofs.Bounds.{party_bound}
 use Rattle.grants.specs.Grant.{reassigned}
 use mathlib.Core.Path.{refl}

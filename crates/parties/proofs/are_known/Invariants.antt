@@ -1,12 +1,8 @@
 -- The loop keeps that what is left decides: an invariant about the rest of the list, not about what was passed.
 use Prim.Native.Nat.{◌≤◌, ◌-◌}
 use Rattle.parties.specs.Owners.{known_owners}
-use borrow.Author.Tests.{le-leb, lt-leb}
-use lib.ListN.{length, drop, drop_of_length-le}
-use lib.Seq.{drop-cons}
-use mathlib.Core.Path.{◌≡◌, refl}
-use native.Mathlib.Numerals.{add-one}
-use native.Mathlib.Omega.{arith}
+use lib.ListN.{length, drop}
+use mathlib.Core.Path.{◌≡◌}
 use Rattle.parties.proofs.are_known.Given as goal
 
 abbrev pub invariant-loop-i : goal.invariant-loop-i

@@ -7,16 +7,16 @@ use lib.ListN.{length, take, drop}
 use Rattle.ads1299_commands.specs.Opcodes.{WREG}
 use Rattle.planner.specs.Runs.{registers_from}
 use Rattle.planner.proofs.Runs.{registers_length, part_registers}
-use Rattle.planner.proofs.Buffer.{Put, put, put_size, put_both}
+use Rattle.planner.proofs.Buffer.{Put, put, put_both}
 use Rattle.planner.proofs.put_run.Goals as goal
 
 pub returns : goal.returns
-returns c = 
+returns c =
     let data_is : let a = c.args in take (a.first + a.further + 1 - a.first) (drop a.first a.registers) ≡ registers_from a.registers a.first (suc a.further) =
-        let n : length c.args.registers ≡ 24 = search rules in
-        part_registers c.args.registers c.args.first c.args.further (omega (arith, c.requires.0)) in
+    let n : length c.args.registers ≡ 24 = search rules in
+    part_registers c.args.registers c.args.first c.args.further (omega (arith, c.requires.0)) in
     let command_put : let a = c.args in Put a.tx.now a.at ((WREG + a.first) ∷ a.further ∷ []) c.put-data.new.tx c.put-data.result =
-        put c.put-data.ensures in
+    put c.put-data.ensures in
     let q = c.before.before in
     let p = q.before.before.before.before.before.before in
     let u = p.before.before.before.before in

@@ -1,11 +1,6 @@
-use mathlib.Core.Path.{◌≡◌}
 use native.Mathlib.Omega.{arith}
-use lib.ListN.{length, drop, length-drop}
-use lib.Seq.{length-take-le}
-use Prim.Native.Nat.{◌-◌}
 use Rattle.leb128.specs.Numbers.{groups}
 use Rattle.leb128.proofs.RoundTrip.{round_trip}
-use Rattle.request.specs.Requests.{longest}
 use Rattle.request.specs.Writing.{contents}
 use Rattle.request.proofs.Padding.{used_more, appended}
 use Rattle.request.proofs.append.Goals as goal

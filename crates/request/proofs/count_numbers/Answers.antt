@@ -1,6 +1,4 @@
-use native.Mathlib.Omega.{arith}
 use Rattle.request.specs.Reading.{numbers_in}
-use Rattle.request.proofs.Reading.{few_values}
 use Rattle.request.proofs.count_numbers.Goals as goal
 
 pub returns : goal.returns

@@ -1,14 +1,8 @@
 -- The loop keeps that what is left decides.
-use borrow.Author.Tests.{le-leb, lt-leb}
-use mathlib.Core.Bool.{◌&&◌}
-use mathlib.Core.Path.{◌≡◌, refl}
-use native.Mathlib.Numerals.{add-one}
-use native.Mathlib.Omega.{arith}
-use Prim.Native.Nat.{◌+◌, ◌-◌, ◌≤◌}
-use lib.Dec.{leb}
-use lib.ListN.{length, get_or, drop, drop_of_length-le}
-use lib.Seq.{drop-cons}
-use Rattle.leb128.specs.Numbers.{groups, largest}
+use mathlib.Core.Path.{◌≡◌}
+use Prim.Native.Nat.{◌-◌, ◌≤◌}
+use lib.ListN.{length, drop}
+use Rattle.leb128.specs.Numbers.{groups}
 use Rattle.leb128.specs.Series.{writable}
 use Rattle.request.proofs.is_writable.Given as goal
 

@@ -1,15 +1,11 @@
 -- The loop keeps that the numbers stored so far and the rest of the series give the answer.
-use borrow.Author.Rules.{part_to_end}
-use mathlib.Core.List.{List}
-use mathlib.Core.Path.{◌≡◌, sym, ap, ◌∙◌}
-use native.Mathlib.Omega.{arith}
-use Prim.Native.Nat.{ℕ, ◌-◌, ◌≤◌}
+use mathlib.Core.Path.{◌≡◌}
+use Prim.Native.Nat.{◌-◌, ◌≤◌}
 use lib.ListN.{length, drop}
 use Rattle.leb128.specs.Numbers.{groups}
-use Rattle.leb128.specs.Decoding.{decoded}
 use Rattle.leb128.specs.Series.{series}
 use Rattle.request.specs.Reading.{series_read}
-use Rattle.request.proofs.Reading.{continued, begins, stops, goes_on, within, ends}
+use Rattle.request.proofs.Reading.{continued}
 use Rattle.request.proofs.read_series.Given as goal
 
 abbrev pub invariant-loop-i : goal.invariant-loop-i

@@ -1,8 +1,7 @@
 -- The loop keeps that the bytes so far, and those of the numbers left, are all.
-use native.Mathlib.Omega.{arith}
 use Prim.Native.Nat.{◌-◌, ◌≤◌}
 use lib.ListN.{length}
-use Rattle.request.proofs.Writing.{Halfway, begins, asks, goes_on, ends}
+use Rattle.request.proofs.Writing.{Halfway}
 use Rattle.request.proofs.stage.Given as goal
 
 abbrev pub invariant-loop-i : goal.invariant-loop-i

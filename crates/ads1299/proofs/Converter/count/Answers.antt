@@ -6,6 +6,6 @@ pub returns : goal.returns
 unfolding counted
 returns c =
     elim c.match-direction.branch [
-      in-Read w ↦ simp (← c.remain-phase.ensures, w.in-Read.is, w.registers-is)
-    | in-Write w ↦ simp (← c.remain-phase.ensures, w.in-Write.is, ← w.write-registers.ensures, w.registers-is)
+      | in-Read w ↦ simp (← c.remain-phase.ensures, w.in-Read.is, w.registers-is)
+      | in-Write w ↦ simp (← c.remain-phase.ensures, w.in-Write.is, ← w.write-registers.ensures, w.registers-is)
     ]

@@ -1,11 +1,8 @@
 -- The loop keeps that the values that are left decide.
-use native.Mathlib.Omega.{arith}
-use Prim.Native.Nat.{◌+◌, ◌-◌, ◌≤◌, ◌<◌}
-use mathlib.Core.Bool.{◌&&◌}
-use mathlib.Core.Path.{◌≡◌, sym, ap, ◌∙◌}
-use Rattle.request.specs.Requests.{most_values, value_count}
+use Prim.Native.Nat.{◌-◌, ◌≤◌}
+use mathlib.Core.Path.{◌≡◌}
+use Rattle.request.specs.Requests.{value_count}
 use Rattle.planner.specs.Settings.{settings_from, settings, all_legal}
-use Rattle.planner.proofs.Settings.{settings_start, value_within, settings_step, settings_end}
 use Rattle.planner.proofs.fields.are_legal.Given as goal
 
 abbrev pub invariant-loop-i : goal.invariant-loop-i

@@ -1,12 +1,9 @@
 -- The loop keeps that the settings that are left lead to the same registers.
 use native.Mathlib.Omega.{arith}
-use Prim.Native.Nat.{◌-◌, ◌≤◌, ◌<◌}
-use mathlib.Core.Path.{◌≡◌, sym, ap, ◌∙◌}
+use mathlib.Core.Path.{sym, ap, ◌∙◌}
 use Rattle.ads1299_settings.specs.Settings.{with_settings}
-use Rattle.request.specs.Requests.{most_values, value_count}
-use Rattle.planner.specs.Settings.{settings_from}
 use Rattle.planner.specs.Plan.{registers_after}
-use Rattle.planner.proofs.Settings.{settings_start, value_within, settings_step, settings_end}
+use Rattle.planner.proofs.Settings.{settings_start, settings_step, settings_end}
 use Rattle.planner.proofs.fields.set_all.Goals as goal
 
 pub loop-done-init : goal.loop-done-init
