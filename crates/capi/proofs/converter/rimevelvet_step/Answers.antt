@@ -1,0 +1,10 @@
+use Rattle.capi.specs.Answers.{stepped_from}
+use Rattle.capi.proofs.converter.rimevelvet_step.Goals as goal
+
+pub returns-then-is_state : goal.returns-then-is_state
+unfolding stepped_from
+returns-then-is_state c = simp (← c.is_state.ensures, c.if-is_state.true, ← c.state_of-before.ensures, ← c.step-stepped.ensures, ← c.flatten.ensures)
+
+pub returns-else-is_state : goal.returns-else-is_state
+unfolding stepped_from
+returns-else-is_state c = simp (← c.is_state.ensures, c.if-is_state.false)
