@@ -3,9 +3,9 @@
  * converter by itself; and a sixteen-channel ADS7953, followed frame by frame. The calls that start with rimevelvet_bench_ take a
  * bench, those that start with rimevelvet_ads7953_ an ADS7953, the others one ADS1299.
  *
- * Link libcapi.a (x86-64 Linux), which `rt staticlib capi` writes to target/staticlib/; for the calls on an ADS7953
- * libcapi_ads7953.a, by `rt staticlib capi_ads7953`. Either stands alone. The library keeps nothing and allocates nothing: a state goes
- * in by value, and the next one comes back. Calls on different states may run at the same time.
+ * Link libcapi.a (x86-64 Linux), which `rt lib` in crates/capi/ writes to its out/; for the calls on an ADS7953 libcapi_ads7953.a,
+ * by `rt lib` in crates/capi_ads7953/. Either stands alone. The library keeps nothing and allocates nothing: a state goes in by
+ * value, and the next one comes back. Calls on different states may run at the same time.
  *
  * Every answer starts with its refusal: 0 is success. A refusal gives every other number as 0, and the state and the buffers
  * exactly as they were given. Where a call has several refusals, they are tried in the order named.

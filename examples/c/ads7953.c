@@ -2,9 +2,9 @@
  * An ADS7953: the administrator plans a channel list and sends it, the part goes through the listed channels, and each frame's word
  * and reply show the lag between them. From the repository's root:
  *
- *     rt staticlib capi_ads7953
- *     gcc -std=c11 -Wall -Wextra -Iinclude examples/c/ads7953.c target/staticlib/libcapi_ads7953.a -o target/ads7953
- *     target/ads7953 | diff - examples/c/ads7953.txt
+ *     (cd crates/capi_ads7953 && rt lib)
+ *     gcc -std=c11 -Wall -Wextra -Iinclude examples/c/ads7953.c crates/capi_ads7953/out/libcapi_ads7953.a -o ads7953
+ *     ./ads7953 | diff - examples/c/ads7953.txt
  */
 #include "rimevelvet.h"
 

@@ -2,9 +2,9 @@
  * The figures of document 01, those of requests for a whole channel, of fresh channel registers, of rails and of a bench of four
  * converters, by way of C. From the repository's root:
  *
- *     rt staticlib capi
- *     gcc -std=c11 -Wall -Wextra -Iinclude examples/c/figures.c target/staticlib/libcapi.a -o target/figures
- *     target/figures | diff - examples/c/figures.txt
+ *     (cd crates/capi && rt lib)
+ *     gcc -std=c11 -Wall -Wextra -Iinclude examples/c/figures.c crates/capi/out/libcapi.a -o figures
+ *     ./figures | diff - examples/c/figures.txt
  */
 #include "rimevelvet.h"
 

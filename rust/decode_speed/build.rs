@@ -10,12 +10,16 @@ const CRATES: [&str; 2] = ["cases", "ads1299_codes"];
 
 const PRIVATE: &str = "\nfn code(";
 
-const EXPORTED: &str = "\n#[no_mangle]\npub extern \"C\" fn code(";
+const EXPORTED: &str = "\n#[unsafe(no_mangle)]\npub extern \"C\" fn code(";
 
+/// Copies a crate's folder, but for what earlier checks kept in its out/.
 fn copy_folder(from: &Path, to: &Path) {
     fs::create_dir_all(to).unwrap();
     for entry in fs::read_dir(from).unwrap() {
         let entry = entry.unwrap();
+        if entry.file_name() == "out" {
+            continue;
+        }
         let target = to.join(entry.file_name());
         if entry.file_type().unwrap().is_dir() {
             copy_folder(&entry.path(), &target);
@@ -34,19 +38,21 @@ fn export_code(copy: &Path) {
 
 fn main() {
     let top = PathBuf::from(env::var("CARGO_MANIFEST_DIR").unwrap()).join("../..");
-    // Below the repository's target/, where rt takes no file of Rattle for one that is left unproved.
-    let copy = top.join("target/decode_speed");
+    // Outside the repository, in which rt ci takes a file of Rattle for one that is left unproved.
+    let copy = env::temp_dir().join("rimevelvet-decode-speed");
     let _ = fs::remove_dir_all(&copy);
     for name in CRATES {
         let folder = top.join("crates").join(name);
         println!("cargo:rerun-if-changed={}", folder.display());
         copy_folder(&folder, &copy.join("crates").join(name));
     }
-    fs::write(copy.join("crates.txt"), "cases:\nads1299_codes: cases\n").unwrap();
+    let list = "cases:\nads1299_codes staticlib: cases\n";
+    fs::write(copy.join("crates.txt"), list).unwrap();
     export_code(&copy);
+    let folder = copy.join("crates/ads1299_codes");
     let built = Command::new("rt")
-        .args(["staticlib", "ads1299_codes"])
-        .current_dir(&copy)
+        .arg("lib")
+        .current_dir(&folder)
         .output()
         .expect("rt is not on the PATH");
     assert!(
@@ -55,9 +61,9 @@ fn main() {
         String::from_utf8_lossy(&built.stdout),
         String::from_utf8_lossy(&built.stderr)
     );
-    let folder = copy.join("target/staticlib");
-    let archive = folder.join("libads1299_codes.a");
+    let out = folder.join("out");
+    let archive = out.join("libads1299_codes.a");
     println!("cargo:rerun-if-changed={}", archive.display());
-    println!("cargo:rustc-link-search=native={}", folder.display());
+    println!("cargo:rustc-link-search=native={}", out.display());
     println!("cargo:rustc-link-lib=static=ads1299_codes");
 }

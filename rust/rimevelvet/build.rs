@@ -1,18 +1,18 @@
-//! Links the archives that `rt staticlib capi` and `rt staticlib capi_ads7953` write.
+//! Links the archives that `rt lib` writes in crates/capi and in crates/capi_ads7953.
 
 use std::env;
 use std::path::PathBuf;
 
 fn main() {
-    let folder = match env::var("RIMEVELVET_LIB") {
-        Ok(folder) => PathBuf::from(folder),
-        Err(_) => {
-            PathBuf::from(env::var("CARGO_MANIFEST_DIR").unwrap()).join("../../target/staticlib")
-        }
-    };
+    let given = env::var("RIMEVELVET_LIB").map(PathBuf::from);
+    let crates = PathBuf::from(env::var("CARGO_MANIFEST_DIR").unwrap()).join("../../crates");
     println!("cargo:rerun-if-env-changed=RIMEVELVET_LIB");
-    println!("cargo:rustc-link-search=native={}", folder.display());
     for archive in ["capi", "capi_ads7953"] {
+        let folder = match &given {
+            Ok(folder) => folder.clone(),
+            Err(_) => crates.join(archive).join("out"),
+        };
+        println!("cargo:rustc-link-search=native={}", folder.display());
         println!(
             "cargo:rerun-if-changed={}",
             folder.join(format!("lib{archive}.a")).display()

@@ -1,5 +1,8 @@
 // The program: reads a party and its requests from standard input and prints what each is answered.
 #![tactic(auto)]
-fn main() {
-    terminal::run();
+
+use std::io;
+
+fn main(rt: HostRuntime) -> io::Result<()> {
+    terminal::run(&rt)
 }

@@ -62,12 +62,13 @@ fn declares(path: &Path, name: &str) -> bool {
     })
 }
 
-/// Whether some file of a crate's src/ has the function.
+/// Whether some file of a crate's src/ has the function, with type parameters or without.
 fn has_function(crate_folder: &Path, name: &str) -> bool {
-    let opening = format!("fn {name}(");
+    let openings = [format!("fn {name}("), format!("fn {name}<")];
     files(&crate_folder.join("src"), ".rt")
         .iter()
-        .any(|path| read(path).contains(&opening))
+        .map(|path| read(path))
+        .any(|text| openings.iter().any(|opening| text.contains(opening)))
 }
 
 /// Whether what a name stands for is there.
@@ -150,7 +151,7 @@ pub fn public_functions() -> Vec<(String, String)> {
                 let rest = line
                     .strip_prefix("pub fn ")
                     .or_else(|| line.strip_prefix("pub extern \"C\" fn "));
-                if let Some((name, _)) = rest.and_then(|rest| rest.split_once('(')) {
+                if let Some((name, _)) = rest.and_then(|rest| rest.split_once(['(', '<'])) {
                     found.push((krate.clone(), name.to_owned()));
                 }
             }

@@ -112,12 +112,12 @@ fn every_changed_definition_is_marked() {
 #[test]
 fn a_name_that_is_not_there_is_noticed() {
     for name in [
-        "planner.Plan.planOff",
-        "planner.Plans.planOf",
+        "planner.Plan.plan_off",
+        "planner.Plans.plan_of",
         "planner::plans",
         "planner/no_byte",
         "planner",
-        "planner.proofs.Plan.planOf",
+        "planner.proofs.Plan.plan_of",
         "rest/",
     ] {
         assert!(!exists(name), "{name}");
