@@ -1,5 +1,6 @@
 // Numbers in groups of seven bits, the lowest group first, in their shortest form only.
 #![tactic(auto)]
+
 ghost use Rattle.std.specs.Prelude.{◌≡◌};
 ghost use Rattle.leb128.specs.Numbers.{groups, refused};
 ghost use Rattle.leb128.specs.Encoding.{encoded_array};
@@ -41,6 +42,7 @@ fn refuse(number: u8) -> Number
 }
 
 // The number that the bytes start with. Bytes after it are not looked at.
+#[tactic(auto, using(crate::proofs::TwoGroups::nothing, crate::proofs::TwoGroups::alone, crate::proofs::TwoGroups::missing, crate::proofs::TwoGroups::zero, crate::proofs::TwoGroups::both, crate::proofs::TwoGroups::third))]
 pub fn read(bytes: &[u8]) -> Number
     ensures { result ≡ decoded groups bytes.now }
 {
