@@ -42,6 +42,7 @@ fn refuse(number: u8) -> Number
 }
 
 // The number that the bytes start with. Bytes after it are not looked at.
+#[tactic(auto, using(crate::proofs::TwoGroups::nothing, crate::proofs::TwoGroups::alone, crate::proofs::TwoGroups::missing, crate::proofs::TwoGroups::zero, crate::proofs::TwoGroups::both, crate::proofs::TwoGroups::third))]
 pub fn read(bytes: &[u8]) -> Number
     ensures { result ≡ decoded groups bytes.now }
 {
