@@ -33,7 +33,7 @@ pub fn plan_live(live: &mut Bench, party: u32, request: Request, tx: &mut [u8], 
     }
 }
 
-// The same as plan, by way of a local bench that is lent: its parameters are plain, so that its callers need no walk.
+// The same as plan, by way of a local bench that is lent: its parameters are plain.
 pub fn plan_borrowed(
     bench: Bench,
     party: u32,

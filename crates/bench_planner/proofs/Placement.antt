@@ -4,7 +4,6 @@ use mathlib.Core.Path.{◌≡◌, refl, sym, ◌∙◌, ap}
 use mathlib.Core.Bool.{true}
 use mathlib.Core.List.{List, [], ◌∷◌, map}
 use native.Mathlib.Omega.{arith}
-use lib.ListN.{length}
 use Rattle.cases.proofs.Cases.{split}
 use Rattle.refusal.specs.Numbers.{none}
 use Rattle.ads1299.specs.declared.Converter.{Converter}

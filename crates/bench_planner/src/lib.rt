@@ -1,6 +1,7 @@
 // From a setting request for the bench to the bytes for one of its converters: the one-converter planner, given the converter that the
 // request names and the channel as that converter counts it.
 #![tactic(auto)]
+
 ghost use Rattle.std.specs.Prelude.{◌≡◌};
 ghost use Rattle.planner.specs.Submission.{submission};
 ghost use Rattle.bench.specs.Formed.{FormedBench};

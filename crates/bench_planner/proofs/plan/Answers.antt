@@ -13,9 +13,9 @@ bounds-converters-k c = omega (arith, mapped_below _ _ c.converter_of-number.ens
 pub returns-then-is_valid-clause-planned : goal.returns-then-is_valid-clause-planned
 unfolding bench_planned bench_tx_after
 returns-then-is_valid-clause-planned c = (
-      simp (c.answer.ensures, ← c.is_valid.ensures, c.if-is_valid.true, ← c.converter_of-number.ensures, ← c.localise-local.ensures, ← c.plan-planned.ensures.planned.0),
-      simp (← c.is_valid.ensures, c.if-is_valid.true, ← c.converter_of-number.ensures, ← c.localise-local.ensures, ← c.plan-planned.ensures.planned.1),
-    )
+  simp (c.answer.ensures, ← c.is_valid.ensures, c.if-is_valid.true, ← c.converter_of-number.ensures, ← c.localise-local.ensures, ← c.plan-planned.ensures.planned.0),
+  simp (← c.is_valid.ensures, c.if-is_valid.true, ← c.converter_of-number.ensures, ← c.localise-local.ensures, ← c.plan-planned.ensures.planned.1),
+)
 
 pub returns-then-is_valid-clause-formed : goal.returns-then-is_valid-clause-formed
 returns-then-is_valid-clause-formed c =
