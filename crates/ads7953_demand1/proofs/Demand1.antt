@@ -1,11 +1,8 @@
 -- Each answer is chosen by its refusal number.
-use Prim.Native.Nat.{ℕ}
 use mathlib.Core.Path.{refl}
-use mathlib.Core.List.{List}
 use Rattle.refusal.specs.Numbers.{none}
 use Rattle.refusal.proofs.First.{exact}
 use Rattle.demand1.proofs.Demand1.{chosen}
-use Rattle.ads7953.specs.declared.Ads7953.{Ads7953}
 use Rattle.ads7953.specs.declared.Framed.{Framed}
 use Rattle.ads7953.specs.Frame.{frame_refusals, frame_refusal, reply, followed, framed}
 use Rattle.ads7953_list.specs.declared.ListPlanned.{ListPlanned}

@@ -1,5 +1,6 @@
 // Grants on the bench: the administrator moves one of its 32 channels to another owner.
 #![tactic(auto)]
+
 ghost use Rattle.std.specs.Prelude.{◌≡◌};
 ghost use Rattle.bench_grants.specs.Grant.{bench_granted};
 

@@ -1,5 +1,6 @@
 // The planner on a live bench that is lent and changed where it lies (document 01, "Plans").
 #![tactic(auto)]
+
 ghost use Rattle.std.specs.Prelude.{◌≡◌};
 ghost use Rattle.planner.specs.Submission.{submission};
 ghost use Rattle.bench_planner.specs.Planned.{bench_planned};

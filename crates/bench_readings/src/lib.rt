@@ -1,5 +1,6 @@
 // Readings on the bench: a frame comes with the number of the converter that it is of.
 #![tactic(auto)]
+
 ghost use Rattle.std.specs.Prelude.{◌≡◌, ◌+◌};
 ghost use Rattle.bench_readings.specs.Reading.{bench_reading, bench_part_bytes, bench_part_place};
 

@@ -1,6 +1,7 @@
 // The library for other languages: every entry point as a C function, over a state and answers that are plain numbers. No state is
 // kept here.
 #![tactic(auto)]
+
 mod answers;
 mod bench_channels;
 mod bench_lines;

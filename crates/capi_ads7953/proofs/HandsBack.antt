@@ -4,8 +4,7 @@ use mathlib.Core.Path.{◌≡◌, refl, sym, ap, ◌∙◌}
 use mathlib.Core.Bool.{true, false}
 use mathlib.Core.List.{List}
 use Rattle.cases.proofs.Cases.{split}
-use Rattle.refusal.specs.Numbers.{invalid_state}
-use Rattle.refusal.specs.First.{first_of, accepted}
+use Rattle.refusal.specs.First.{accepted}
 use Rattle.splice.specs.Splice.{room_at}
 use Rattle.demand1.proofs.Demand1.{kept_by}
 use Rattle.ads7953.specs.declared.Framed.{Framed}

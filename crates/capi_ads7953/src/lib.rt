@@ -1,5 +1,6 @@
 // The ADS7953's entry points for other languages, over its flat form. No state is kept here.
 #![tactic(auto)]
+
 ghost use Rattle.std.specs.Prelude.{◌≡◌};
 ghost use Rattle.splice.specs.Splice.{room_at};
 ghost use Rattle.ads7953.specs.Frame.{powered_up, framed};

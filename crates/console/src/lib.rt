@@ -1,5 +1,6 @@
 // The program as one function on slices: what it prints for an input (document 01, "The program, and figures to check").
 #![tactic(auto)]
+
 ghost use Rattle.std.specs.Prelude.{◌≡◌, ◌+◌, ◌<◌, ◌≤◌, length};
 ghost use Rattle.splice.specs.Splice.{spliced};
 ghost use Rattle.console.specs.Text.{hex_digit, decimal, hex, hexes};

@@ -26,9 +26,7 @@ use Rattle.ads1299.specs.Step.{effect, commanded, followed, stepped}
 use Rattle.ads1299.specs.Run.{after, run_refusals}
 use Rattle.ads1299.proofs.ValidState.{whole}
 use Rattle.ads1299.proofs.StaysValid.{next_is, stays_valid}
-use Rattle.ads1299_fields.specs.Places.{place}
 use Rattle.planner.specs.Plan.{entering, leaving}
-use Rattle.planner.proofs.Accepted.{next}
 
 -- runs of bytes
 pub after_append : (xs : List ℕ) (s : Converter) (ys : List ℕ) → after s (xs ++ ys) ≡ after (after s xs) ys

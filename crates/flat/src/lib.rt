@@ -1,5 +1,6 @@
 // The flat form of a converter's state, for other languages: from a state to its bytes and back, and which bytes stand for a state.
 #![tactic(auto)]
+
 mod back;
 mod codes;
 mod forward;

@@ -1,5 +1,6 @@
 // The flat form of a bench, for other languages: four converters' flat forms, and back.
 #![tactic(auto)]
+
 ghost use Rattle.std.specs.Prelude.{◌≡◌};
 ghost use Rattle.flat_bench.specs.Flat.{is_bench, bench_of, flat_bench};
 

@@ -8,7 +8,6 @@ use borrow.Author.Tests.{not-false, eqb-true, eqb-false}
 use lib.Dec.{eqb}
 use Rattle.cases.proofs.Cases.{split, and_both}
 use Rattle.cases.proofs.Every.{both}
-use Rattle.bits.specs.Fields.{field}
 use Rattle.refusal.specs.First.{accepted}
 use Rattle.refusal.proofs.First.{exact}
 use Rattle.ads1299.specs.declared.Converter.{Converter}

@@ -9,7 +9,6 @@ use lib.Dec.{eqb}
 use lib.ListN.{get_or}
 use Rattle.cases.proofs.Cases.{split, and_both}
 use Rattle.cases.proofs.Every.{both, every_both}
-use Rattle.bits.specs.Fields.{field}
 use Rattle.bits.proofs.Fields.{same_bits}
 use Rattle.refusal.specs.First.{accepted}
 use Rattle.ads1299.specs.declared.Converter.{Converter}

@@ -1,14 +1,13 @@
 -- The loop keeps that what is written, with the lines of the rest laid after it, is the whole transcript: nothing is said of the requests passed.
 use borrow.Author.Rules.{part_to_end}
 use native.Mathlib.Omega.{arith}
-use mathlib.Core.Path.{◌≡◌, refl, sym, ap, ◌∙◌}
+use mathlib.Core.Path.{◌≡◌, sym, ap, ◌∙◌}
 use mathlib.Core.List.{List}
-use Prim.Native.Nat.{ℕ, ◌+◌, ◌-◌, ◌≤◌, ◌<◌}
+use Prim.Native.Nat.{ℕ, ◌+◌, ◌≤◌, ◌<◌}
 use lib.ListN.{length, drop}
 use Rattle.splice.specs.Splice.{spliced}
 use Rattle.splice.proofs.Splice.{fitting_laid, nothing_spliced}
-use Rattle.ads1299.specs.declared.Converter.{Converter}
-use Rattle.console.specs.Turn.{fresh, printed, turn}
+use Rattle.console.specs.Turn.{printed, turn}
 use Rattle.console.specs.Transcript.{session}
 use Rattle.console.proofs.Sessions.{no_more, room, goes_on, text_length, text}
 use Rattle.console.proofs.answer_all.Goals as goal
@@ -20,49 +19,49 @@ answer-turn-requires c = let l = c in
     omega (arith, r, ap (λ (x : List ℕ). length (printed l.loop-at.converter a.party x)) (part_to_end a.bytes.now l.loop-at.at))
 
 pub overflow_add-at : goal.overflow_add-at
-overflow_add-at c = 
+overflow_add-at c =
     let rest : List ℕ =
-        drop c.loop-at.at c.args.bytes.now in
+    drop c.loop-at.at c.args.bytes.now in
     let turn_is : let l = c in c.answer-turn.result ≡ turn l.loop-at.converter l.args.party rest l.loop-at.place =
-        let l = c in
-        let a = l.args in
-        c.answer-turn.ensures.0 ∙ ap (λ (r : List ℕ). turn l.loop-at.converter a.party r l.loop-at.place) (part_to_end a.bytes.now l.loop-at.at) in
+    let l = c in
+    let a = l.args in
+    c.answer-turn.ensures.0 ∙ ap (λ (r : List ℕ). turn l.loop-at.converter a.party r l.loop-at.place) (part_to_end a.bytes.now l.loop-at.at) in
     let on : let l = c in (0 < c.answer-turn.result.used) × (l.loop-at.at + c.answer-turn.result.used ≤ length l.args.bytes.now) =
-        let l = c in
-        let a = l.args in
-        goes_on l.loop-at.converter a.party l.loop-at.at l.loop-at.place a.bytes.now l.loop-at.out c.loop-at-test.true c.answer-turn.result turn_is in
+    let l = c in
+    let a = l.args in
+    goes_on l.loop-at.converter a.party l.loop-at.at l.loop-at.place a.bytes.now l.loop-at.out c.loop-at-test.true c.answer-turn.result turn_is in
     omega (arith, on.1)
 
 pub loop-at-smaller : goal.loop-at-smaller
-loop-at-smaller c = 
+loop-at-smaller c =
     let rest : List ℕ =
-        drop c.loop-at.at c.args.bytes.now in
+    drop c.loop-at.at c.args.bytes.now in
     let turn_is : let l = c in c.answer-turn.result ≡ turn l.loop-at.converter l.args.party rest l.loop-at.place =
-        let l = c in
-        let a = l.args in
-        c.answer-turn.ensures.0 ∙ ap (λ (r : List ℕ). turn l.loop-at.converter a.party r l.loop-at.place) (part_to_end a.bytes.now l.loop-at.at) in
+    let l = c in
+    let a = l.args in
+    c.answer-turn.ensures.0 ∙ ap (λ (r : List ℕ). turn l.loop-at.converter a.party r l.loop-at.place) (part_to_end a.bytes.now l.loop-at.at) in
     let on : let l = c in (0 < c.answer-turn.result.used) × (l.loop-at.at + c.answer-turn.result.used ≤ length l.args.bytes.now) =
-        let l = c in
-        let a = l.args in
-        goes_on l.loop-at.converter a.party l.loop-at.at l.loop-at.place a.bytes.now l.loop-at.out c.loop-at-test.true c.answer-turn.result turn_is in
+    let l = c in
+    let a = l.args in
+    goes_on l.loop-at.converter a.party l.loop-at.at l.loop-at.place a.bytes.now l.loop-at.out c.loop-at-test.true c.answer-turn.result turn_is in
     omega (arith, on.0, on.1)
 
 pub loop-at-preserved : goal.loop-at-preserved
-loop-at-preserved c = 
+loop-at-preserved c =
     let rest : List ℕ =
-        drop c.loop-at.at c.args.bytes.now in
+    drop c.loop-at.at c.args.bytes.now in
     let turn_is : let l = c in c.answer-turn.result ≡ turn l.loop-at.converter l.args.party rest l.loop-at.place =
-        let l = c in
-        let a = l.args in
-        c.answer-turn.ensures.0 ∙ ap (λ (r : List ℕ). turn l.loop-at.converter a.party r l.loop-at.place) (part_to_end a.bytes.now l.loop-at.at) in
+    let l = c in
+    let a = l.args in
+    c.answer-turn.ensures.0 ∙ ap (λ (r : List ℕ). turn l.loop-at.converter a.party r l.loop-at.place) (part_to_end a.bytes.now l.loop-at.at) in
     let out_is : let l = c in c.answer-turn.new.out ≡ spliced l.loop-at.out l.loop-at.place (printed l.loop-at.converter l.args.party rest) =
-        let l = c in
-        let a = l.args in
-        c.answer-turn.ensures.1 ∙ ap (λ (r : List ℕ). spliced l.loop-at.out l.loop-at.place (printed l.loop-at.converter a.party r)) (part_to_end a.bytes.now l.loop-at.at) in
+    let l = c in
+    let a = l.args in
+    c.answer-turn.ensures.1 ∙ ap (λ (r : List ℕ). spliced l.loop-at.out l.loop-at.place (printed l.loop-at.converter a.party r)) (part_to_end a.bytes.now l.loop-at.at) in
     let on : let l = c in (0 < c.answer-turn.result.used) × (l.loop-at.at + c.answer-turn.result.used ≤ length l.args.bytes.now) =
-        let l = c in
-        let a = l.args in
-        goes_on l.loop-at.converter a.party l.loop-at.at l.loop-at.place a.bytes.now l.loop-at.out c.loop-at-test.true c.answer-turn.result turn_is in
+    let l = c in
+    let a = l.args in
+    goes_on l.loop-at.converter a.party l.loop-at.at l.loop-at.place a.bytes.now l.loop-at.out c.loop-at-test.true c.answer-turn.result turn_is in
     let u = c in
     let l = c in
     let a = l.args in

@@ -1,16 +1,10 @@
 -- The loop keeps that what is written, with the lines of the rest laid after it, is the whole transcript: nothing is said of the requests passed.
-use borrow.Author.Rules.{part_to_end}
-use native.Mathlib.Omega.{arith}
-use mathlib.Core.Path.{◌≡◌, refl, sym, ap, ◌∙◌}
-use mathlib.Core.List.{List}
-use Prim.Native.Nat.{ℕ, ◌+◌, ◌-◌, ◌≤◌, ◌<◌}
+use mathlib.Core.Path.{◌≡◌}
+use Prim.Native.Nat.{◌+◌, ◌-◌, ◌≤◌}
 use lib.ListN.{length, drop}
 use Rattle.splice.specs.Splice.{spliced}
-use Rattle.splice.proofs.Splice.{fitting_laid, nothing_spliced}
-use Rattle.ads1299.specs.declared.Converter.{Converter}
-use Rattle.console.specs.Turn.{fresh, printed, turn}
+use Rattle.console.specs.Turn.{fresh}
 use Rattle.console.specs.Transcript.{session}
-use Rattle.console.proofs.Sessions.{no_more, room, goes_on, text_length, text}
 use Rattle.console.proofs.answer_all.Given as goal
 
 abbrev pub invariant-loop-at : goal.invariant-loop-at

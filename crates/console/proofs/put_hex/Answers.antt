@@ -1,7 +1,6 @@
 use native.Mathlib.Omega.{arith}
 use mathlib.Core.Path.{◌∙◌}
 use mathlib.Core.List.{[], ◌∷◌}
-use lib.ListN.{length-set}
 use Rattle.splice.specs.Splice.{spliced}
 use Rattle.console.specs.Text.{blank, hex}
 use Rattle.console.proofs.Storing.{three}
