@@ -3,8 +3,9 @@ use borrow.Author.Rules.{part_to_end}
 use mathlib.Core.List.{List}
 use mathlib.Core.Path.{◌≡◌, sym, ap, ◌∙◌}
 use native.Mathlib.Omega.{arith}
-use Prim.Native.Nat.{ℕ}
-use lib.ListN.{drop}
+use Prim.Native.Nat.{ℕ, ◌-◌}
+use lib.ListN.{length, take, drop}
+use Rattle.leb128.specs.declared.Number.{Number}
 use Rattle.leb128.specs.Numbers.{groups}
 use Rattle.leb128.specs.Decoding.{decoded}
 use Rattle.request.proofs.Reading.{begins, stops, goes_on, within, ends}
@@ -13,43 +14,40 @@ use Rattle.request.proofs.read_series.Goals as goal
 pub loop-i-init : goal.loop-i-init
 loop-i-init c = let a = c.args in (omega arith, (omega arith, begins a.count a.bytes.now c.requires))
 
+-- the number at the loop's place
+number : (bytes : List ℕ) (used : ℕ) (n : Number) → n ≡ decoded groups (take (length bytes - used) (drop used bytes)) → n ≡ decoded groups (drop used bytes)
+number bytes used n e = e ∙ ap (λ (part : List ℕ). decoded groups part) (part_to_end bytes used)
+
 pub returns-then-number-ne-NONE : goal.returns-then-number-ne-NONE
 returns-then-number-ne-NONE c =
-    let number : let l = c.before.before.before in c.read-number.result ≡ decoded groups (drop l.loop-i.used l.args.bytes.now) =
-    let l = c in
-    c.read-number.ensures ∙ ap (λ (part : List ℕ). decoded groups part) (part_to_end l.args.bytes.now l.loop-i.used) in
-    let r = c.before.before in
-    let l = r.before.before.before in
-    let a = l.args in
-    sym (l.loop-i.invariant.1.1 ∙ stops a.bytes.now a.count l.loop-i.numbers l.loop-i.used l.loop-i.i r.loop-i-test.true r.read-number.result (number) c.if-number-ne-NONE.true)
+    let a = c.args in
+    let l = c.loop-i in
+    let read = number a.bytes.now l.used _ c.read-number.ensures in
+    sym (l.invariant.1.1 ∙ stops a.bytes.now a.count l.numbers l.used l.i c.loop-i-test.true c.read-number.result read c.if-number-ne-NONE.true)
 
 pub overflow_add-used : goal.overflow_add-used
 overflow_add-used c =
-    let number : let l = c.before.before.before in c.read-number.result ≡ decoded groups (drop l.loop-i.used l.args.bytes.now) =
-    let l = c in
-    c.read-number.ensures ∙ ap (λ (part : List ℕ). decoded groups part) (part_to_end l.args.bytes.now l.loop-i.used) in
-    let r = c.before.before.before in
-    let l = r.before.before.before in
-    let a = l.args in
-    omega (arith, within a.bytes.now a.count l.loop-i.numbers l.loop-i.used l.loop-i.i r.loop-i-test.true r.read-number.result (number) l.loop-i.invariant.1.0)
+    let a = c.args in
+    let l = c.loop-i in
+    let read = number a.bytes.now l.used _ c.read-number.ensures in
+    omega (arith, within a.bytes.now a.count l.numbers l.used l.i c.loop-i-test.true c.read-number.result read l.invariant.1.0)
 
 pub loop-i-preserved : goal.loop-i-preserved
 loop-i-preserved c =
-    let number : let l = c.before.before.before in c.read-number.result ≡ decoded groups (drop l.loop-i.used l.args.bytes.now) =
-    let l = c in
-    c.read-number.ensures ∙ ap (λ (part : List ℕ). decoded groups part) (part_to_end l.args.bytes.now l.loop-i.used) in
-    let r = c.before.before.before in
-    let l = r.before.before.before in
-    let a = l.args in
-    let t = r.loop-i-test.true in (
+    let a = c.args in
+    let l = c.loop-i in
+    let t = c.loop-i-test.true in
+    let n = c.read-number.result in
+    let read = number a.bytes.now l.used _ c.read-number.ensures in (
       omega arith,
       (
-        within a.bytes.now a.count l.loop-i.numbers l.loop-i.used l.loop-i.i t r.read-number.result (number) l.loop-i.invariant.1.0,
-        l.loop-i.invariant.1.1 ∙ goes_on a.bytes.now a.count l.loop-i.numbers l.loop-i.used l.loop-i.i t r.read-number.result (number) c.if-number-ne-NONE.false,
+        within a.bytes.now a.count l.numbers l.used l.i t n read l.invariant.1.0,
+        l.invariant.1.1 ∙ goes_on a.bytes.now a.count l.numbers l.used l.i t n read c.if-number-ne-NONE.false,
       ),
     )
 
 pub returns : goal.returns
-returns c = let l = c.before in
-    let a = l.args in
-    sym (l.loop-i.invariant.1.1 ∙ ends a.bytes.now a.count l.loop-i.numbers l.loop-i.used l.loop-i.i c.loop-i-test.false)
+returns c =
+    let a = c.args in
+    let l = c.loop-i in
+    sym (l.invariant.1.1 ∙ ends a.bytes.now a.count l.numbers l.used l.i c.loop-i-test.false)
