@@ -24,25 +24,23 @@ pub overflow_add-place : goal.overflow_add-place
 overflow_add-place c = omega (arith, length_hexes c.args.bytes.now)
 
 pub loop-i-preserved : goal.loop-i-preserved
-loop-i-preserved c = let l = c.before.before.before.before.before.before in
-    let a = l.args in
+loop-i-preserved c = let a = c.args in
     let u = c.put_hex in
     let fits : a.at + length (hexes a.bytes.now) ≤ length a.out.now = omega arith in (
       omega arith,
       (
         omega arith,
         (
-          u.ensures ∙ (λ i. spliced (l.loop-i.invariant.1.1.0 i) (l.loop-i.invariant.1.0 i) (hex (get_or a.bytes.now l.loop-i.i 0)))
-              ∙ next_hex a.bytes.now a.out.now a.at l.loop-i.i c.loop-i-test.true fits,
-          ap length u.ensures ∙ (fitting_laid l.loop-i.out l.loop-i.place (hex (get_or a.bytes.now l.loop-i.i 0)) (omega (arith, length_hexes a.bytes.now, length_hex (get_or a.bytes.now l.loop-i.i 0)))).size ∙ l.loop-i.invariant.1.1.1,
+          u.ensures ∙ (λ i. spliced (c.loop-i.invariant.1.1.0 i) (c.loop-i.invariant.1.0 i) (hex (get_or a.bytes.now c.loop-i.i 0)))
+              ∙ next_hex a.bytes.now a.out.now a.at c.loop-i.i c.loop-i-test.true fits,
+          ap length u.ensures ∙ (fitting_laid c.loop-i.out c.loop-i.place (hex (get_or a.bytes.now c.loop-i.i 0)) (omega (arith, length_hexes a.bytes.now, length_hex (get_or a.bytes.now c.loop-i.i 0)))).size ∙ c.loop-i.invariant.1.1.1,
         ),
       ),
     )
 
 pub returns : goal.returns
-returns c = let l = c.before in
-    let a = l.args in
-    let e : l.loop-i.i ≡ length a.bytes.now = le_antisymm l.loop-i.invariant.0 c.loop-i-test.false in (
+returns c = let a = c.args in
+    let e : c.loop-i.i ≡ length a.bytes.now = le_antisymm c.loop-i.invariant.0 c.loop-i-test.false in (
       omega (arith, length_hexes a.bytes.now),
-      l.loop-i.invariant.1.1.0 ∙ ap (λ (k : ℕ). spliced a.out.now a.at (hexes (take k a.bytes.now))) e ∙ ap (λ (k : List ℕ). spliced a.out.now a.at (hexes k)) (take-length a.bytes.now),
+      c.loop-i.invariant.1.1.0 ∙ ap (λ (k : ℕ). spliced a.out.now a.at (hexes (take k a.bytes.now))) e ∙ ap (λ (k : List ℕ). spliced a.out.now a.at (hexes k)) (take-length a.bytes.now),
     )

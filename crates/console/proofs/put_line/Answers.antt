@@ -1,11 +1,8 @@
 use native.Mathlib.Omega.{arith}
-use mathlib.Core.Path.{◌≡◌, ap}
-use Prim.Native.Nat.{◌+◌}
-use lib.ListN.{length, set}
-use Rattle.splice.specs.Splice.{spliced}
+use mathlib.Core.Path.{ap}
+use lib.ListN.{length}
 use Rattle.splice.proofs.Splice.{fitting_laid}
-use Rattle.console.specs.Text.{newline, decimal}
-use Rattle.console.specs.Line.{line}
+use Rattle.console.specs.Text.{decimal}
 use Rattle.console.proofs.Lines.{length_line, stored}
 use Rattle.console.proofs.put_line.Goals as goal
 
@@ -20,20 +17,16 @@ put_hexes-end-requires c = let a = c.args in
 
 pub bounds-out-end : goal.bounds-out-end
 bounds-out-end c =
-    let text : let h = c.put_hexes-end in let a = c.args in
-    (h.result + 1 ≡ a.at + length (line a.number a.plan.now)) × ((length h.new.out ≡ length a.out.now) × (set h.new.out h.result newline ≡ spliced a.out.now a.at (line a.number a.plan.now))) =
-    let h = c.put_hexes-end in
-    let d = c.put_decimal-after_number in
     let a = c.args in
-    stored a.out.now a.at a.number a.plan.now (omega arith) _ _ _ _ d.ensures.0 d.ensures.1 h.ensures.0 h.ensures.1 in
+    let d = c.put_decimal-after_number.ensures in
+    let h = c.put_hexes-end.ensures in
+    let text = stored a.out.now a.at a.number a.plan.now (omega arith) _ _ _ _ d.0 d.1 h.0 h.1 in
     omega (arith, text.0, text.1.0)
 
 pub returns : goal.returns
 returns c =
-    let text : let h = c.put_hexes-end in let a = c.args in
-    (h.result + 1 ≡ a.at + length (line a.number a.plan.now)) × ((length h.new.out ≡ length a.out.now) × (set h.new.out h.result newline ≡ spliced a.out.now a.at (line a.number a.plan.now))) =
-    let h = c.put_hexes-end in
-    let d = c.put_decimal-after_number in
     let a = c.args in
-    stored a.out.now a.at a.number a.plan.now (omega arith) _ _ _ _ d.ensures.0 d.ensures.1 h.ensures.0 h.ensures.1 in
+    let d = c.put_decimal-after_number.ensures in
+    let h = c.put_hexes-end.ensures in
+    let text = stored a.out.now a.at a.number a.plan.now (omega arith) _ _ _ _ d.0 d.1 h.0 h.1 in
     (text.0, text.1.1)

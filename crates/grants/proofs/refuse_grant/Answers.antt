@@ -7,13 +7,11 @@ use Rattle.grants.proofs.refuse_grant.Goals as goal
 
 pub returns : goal.returns
 unfolding grant_refusal
-returns c = let w = c.before.before in
-    let t = w.before.before.before.before.before in
-    let a = t.args in
+returns c = let a = c.args in
     walked (grant_refusals a.converter a.caller a.receiver a.channel) refl c.first_of.ensures
-    (λ i. says invalid_state w.when.ensures t.is_valid-valid.ensures i
-    ∷ says unknown_party w.when-2.ensures t.is_known-caller_known.ensures i
-    ∷ says unknown_party w.when-3.ensures t.is_known-receiver_known.ensures i
-    ∷ says wrong_channel w.when-4.ensures t.is_channel-there.ensures i
-    ∷ says not_owner w.when-5.ensures t.is_admin-admin.ensures i
+    (λ i. says invalid_state c.when.ensures c.is_valid-valid.ensures i
+    ∷ says unknown_party c.when-2.ensures c.is_known-caller_known.ensures i
+    ∷ says unknown_party c.when-3.ensures c.is_known-receiver_known.ensures i
+    ∷ says wrong_channel c.when-4.ensures c.is_channel-there.ensures i
+    ∷ says not_owner c.when-5.ensures c.is_admin-admin.ensures i
     ∷ [])

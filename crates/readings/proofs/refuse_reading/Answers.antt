@@ -7,14 +7,11 @@ use Rattle.readings.proofs.refuse_reading.Goals as goal
 
 pub returns : goal.returns
 unfolding reading_refusal
-returns c = let w = c.before.before in
-    let f = w.before.before.before.before.before in
-    let t = f.before.before.before in
-    let a = t.args in
+returns c = let a = c.args in
     walked (reading_refusals a.converter a.party a.channel a.frame.now) refl c.first_of.ensures
-    (λ i. says invalid_state w.when.ensures t.is_valid-valid.ensures i
-    ∷ says unknown_party w.when-2.ensures t.is_known-known.ensures i
-    ∷ says wrong_channel w.when-3.ensures t.is_channel-there.ensures i
-    ∷ says not_owner w.when-4.ensures f.is_owner-owner.ensures i
-    ∷ says bad_frame w.when-5.ensures f.is_frame-framed.ensures i
+    (λ i. says invalid_state c.when.ensures c.is_valid-valid.ensures i
+    ∷ says unknown_party c.when-2.ensures c.is_known-known.ensures i
+    ∷ says wrong_channel c.when-3.ensures c.is_channel-there.ensures i
+    ∷ says not_owner c.when-4.ensures c.is_owner-owner.ensures i
+    ∷ says bad_frame c.when-5.ensures c.is_frame-framed.ensures i
     ∷ [])

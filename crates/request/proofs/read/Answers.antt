@@ -9,7 +9,6 @@ pub read_series-found-requires : goal.read_series-found-requires
 read_series-found-requires c = omega (arith, (numbers_between c.args.bytes.now).1)
 
 pub returns : goal.returns
-returns c = let s = c.before.before in
-    let bytes = s.args.bytes.now in
-    (λ i. record { refusal = s.read_series-found.result.refusal; request = c.request_of.ensures i; used = s.read_series-found.result.used })
-    ∙ answers bytes s.read_series-found.result (s.read_series-found.ensures ∙ ap (λ (count : ℕ). series_read count bytes) s.count_numbers-count.ensures)
+returns c = let bytes = c.args.bytes.now in
+    (λ i. record { refusal = c.read_series-found.result.refusal; request = c.request_of.ensures i; used = c.read_series-found.result.used })
+    ∙ answers bytes c.read_series-found.result (c.read_series-found.ensures ∙ ap (λ (count : ℕ). series_read count bytes) c.count_numbers-count.ensures)

@@ -3,11 +3,10 @@ use Rattle.capi.proofs.bench_requests.rimevelvet_bench_plan.Goals as goal
 
 pub returns-then-is_bench : goal.returns-then-is_bench
 unfolding bench_planned_from bench_buffer_from
-returns-then-is_bench c = let t = c.before.before.before in
-    let b = t.before.before in (
-      simp (c.flatten.ensures, ← b.is_bench.ensures, b.if-is_bench.true, ← b.bench_of-before.ensures, ← t.plan_borrowed-planned.ensures.0),
-      simp (← b.is_bench.ensures, b.if-is_bench.true, ← b.bench_of-before.ensures, ← t.plan_borrowed-planned.ensures.1),
-    )
+returns-then-is_bench c = (
+  simp (c.flatten.ensures, ← c.is_bench.ensures, c.if-is_bench.true, ← c.bench_of-before.ensures, ← c.plan_borrowed-planned.ensures.0),
+  simp (← c.is_bench.ensures, c.if-is_bench.true, ← c.bench_of-before.ensures, ← c.plan_borrowed-planned.ensures.1),
+)
 
 pub returns-else-is_bench : goal.returns-else-is_bench
 unfolding bench_planned_from bench_buffer_from
