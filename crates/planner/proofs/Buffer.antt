@@ -34,6 +34,10 @@ module _ {tx : List ℕ} {at : ℕ} {first one : List ℕ} {next : ℕ} (p : Put
   pub put_size : at + length first ≤ length tx → length one ≡ length tx
   put_size h = ap length p.buffer ∙ (fitting_laid tx at first h).size
 
+  -- room that the buffer has beyond the bytes is left after them
+  pub put_room : (more : ℕ) → at + (length first + more) ≤ length tx → next + more ≤ length one
+  put_room more h = omega (arith, p.place, put_size (omega arith))
+
   -- bytes put after bytes
   pub put_both : {second two : List ℕ} {end : ℕ} → Put one next second two end → at + (length first + length second) ≤ length tx
       → Put tx at (first ++ second) two end

@@ -12,14 +12,10 @@ use Rattle.planner.proofs.put_run.Goals as goal
 
 pub returns : goal.returns
 returns c =
-    let data_is : let a = c.args in take (a.first + a.further + 1 - a.first) (drop a.first a.registers) ≡ registers_from a.registers a.first (suc a.further) =
+    let a = c.args in
+    let data_is : take (a.first + a.further + 1 - a.first) (drop a.first a.registers) ≡ registers_from a.registers a.first (suc a.further) =
     let n : length c.args.registers ≡ 24 = search rules in
-    part_registers c.args.registers c.args.first c.args.further (omega (arith, c.requires.0)) in
-    let command_put : let a = c.args in Put a.tx.now a.at ((WREG + a.first) ∷ a.further ∷ []) c.put-data.new.tx c.put-data.result =
-    put c.put-data.ensures in
-    let q = c.before.before in
-    let p = q.before.before.before.before.before.before in
-    let u = p.before.before.before.before in
-    let a = u.args in
-    let both = rw (data_is) at (put_both (command_put) (put q.put.ensures) (omega (arith, ap length (data_is), registers_length a.registers a.first (suc a.further), u.requires.1))) in
+    part_registers a.registers a.first a.further (omega (arith, c.requires.0)) in
+    let command_put : Put a.tx.now a.at ((WREG + a.first) ∷ a.further ∷ []) c.put-data.new.tx c.put-data.result = put c.put-data.ensures in
+    let both = rw data_is at (put_both command_put (put c.put.ensures) (omega (arith, ap length data_is, registers_length a.registers a.first (suc a.further), c.requires.1))) in
     (both.place, both.buffer)

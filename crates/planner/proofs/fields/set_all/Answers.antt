@@ -8,26 +8,27 @@ use Rattle.planner.proofs.fields.set_all.Goals as goal
 
 pub loop-done-init : goal.loop-done-init
 unfolding registers_after
-loop-done-init c = let n = c.count_values-count in
+loop-done-init c =
+    let n = c.count_values-count in
     let a = c.args in
     (n.ensures, (omega arith, ap (with_settings a.registers a.request.channel) (settings_start a.request n.result n.ensures)))
 
 -- one setting made, and the rest
 pub loop-done-preserved : goal.loop-done-preserved
 unfolding with_settings
-loop-done-preserved c = let l = c.before.before.before in
-    let r = l.args.request in (
-      l.loop-done.invariant.0,
+loop-done-preserved c =
+    let r = c.args.request in (
+      c.loop-done.invariant.0,
       (
         omega (arith, c.loop-done-test.true),
-        l.loop-done.invariant.1.1
-            ∙ ap (with_settings l.loop-done.after r.channel) (settings_step r l.count_values-count.result l.loop-done.done c.loop-done-test.true)
+        c.loop-done.invariant.1.1
+            ∙ ap (with_settings c.loop-done.after r.channel) (settings_step r c.count_values-count.result c.loop-done.done c.loop-done-test.true)
             ∙ simp (c.write-set.ensures, c.field_at-field.ensures),
       ),
     )
 
 pub returns : goal.returns
 unfolding with_settings
-returns c = let l = c.before in
-    let r = l.args.request in
-    sym (l.loop-done.invariant.1.1 ∙ ap (with_settings l.loop-done.after r.channel) (settings_end r l.count_values-count.result l.loop-done.done c.loop-done-test.false))
+returns c =
+    let r = c.args.request in
+    sym (c.loop-done.invariant.1.1 ∙ ap (with_settings c.loop-done.after r.channel) (settings_end r c.count_values-count.result c.loop-done.done c.loop-done-test.false))
