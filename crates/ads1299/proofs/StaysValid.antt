@@ -25,7 +25,7 @@ use Rattle.ads1299_commands.specs.declared.Command.TheVariants.{Wakeup, Standby,
 use Rattle.ads1299.specs.PowerUp.{valid_id, restored, powered_up}
 use Rattle.ads1299_registers.specs.Table.{power_up, masks}
 use Rattle.ads1299.specs.Registers.{written}
-use Rattle.ads1299.specs.declared.Moved.{Moved}
+use Rattle.ads1299.specs.Answers.{Moved}
 use Rattle.ads1299.specs.State.{with_phase}
 use Rattle.ads1299_commands.specs.Commands.{decoded, acts}
 use Rattle.ads1299_serial.specs.Output.{valid_place}

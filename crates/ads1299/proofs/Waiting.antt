@@ -8,7 +8,7 @@ use lib.ListN.{replicate}
 use Rattle.cases.proofs.Cases.{split, either, and_both}
 use Rattle.refusal.specs.Numbers.{none}
 use Rattle.ads1299.specs.declared.Converter.{Converter}
-use Rattle.ads1299.specs.declared.Moved.{Moved}
+use Rattle.ads1299.specs.Answers.{Moved}
 use Rattle.ads1299_serial.specs.declared.Transfer.{Transfer}
 use Rattle.ads1299_serial.specs.declared.Direction.{Direction}
 use Rattle.ads1299_serial.specs.declared.Direction.TheVariants.{Read, Write}

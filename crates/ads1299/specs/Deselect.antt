@@ -2,7 +2,7 @@
 use Rattle.std.specs.Prelude.{cond}
 use Rattle.refusal.specs.Numbers.{none, invalid_state}
 use Rattle.ads1299.specs.declared.Converter.{Converter}
-use Rattle.ads1299.specs.declared.Moved.{Moved}
+use Rattle.ads1299.specs.Answers.{Moved}
 use Rattle.ads1299_serial.specs.declared.Phase.TheVariants.{Waiting}
 use Rattle.ads1299.specs.State.{with_phase, moved}
 use Rattle.ads1299.specs.Output.{emptied}

@@ -1,3 +1,4 @@
+pub mod Answers
 pub mod Registers
 pub mod State
 pub mod Formed

@@ -6,7 +6,7 @@ use Rattle.ads1299_frame.specs.Frame.{frame_length}
 use Rattle.ads1299.specs.declared.Converter.{Converter}
 use Rattle.ads1299_serial.specs.declared.Output.TheVariants.{Empty}
 use Rattle.ads1299_serial.specs.declared.Phase.TheVariants.{Waiting}
-use Rattle.ads1299.specs.declared.PoweredUp.{PoweredUp}
+use Rattle.ads1299.specs.Answers.{PoweredUp}
 use Rattle.parties.specs.Parties.{admin}
 use Rattle.ads1299_registers.specs.Table.{power_up}
 use Rattle.ads1299.specs.State.{state}

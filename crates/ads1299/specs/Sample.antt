@@ -6,7 +6,7 @@ use Rattle.ads1299_registers.specs.Addresses.{channel_count, LOFF_STATP, LOFF_ST
 use Rattle.ads1299_codes.specs.Codes.{all_in_range}
 use Rattle.ads1299_frame.specs.Frame.{frame_of}
 use Rattle.ads1299.specs.declared.Converter.{Converter}
-use Rattle.ads1299.specs.declared.Moved.{Moved}
+use Rattle.ads1299.specs.Answers.{Moved}
 use Rattle.ads1299.specs.State.{with_registers, with_latest, moved}
 use Rattle.ads1299.specs.Output.{loaded}
 use Rattle.ads1299.specs.Validity.{valid}

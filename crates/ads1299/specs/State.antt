@@ -1,7 +1,7 @@
 -- The state with one part changed and all else as it is, and the answer that is a number and a state.
 use Rattle.std.specs.Prelude.{ℕ, Bool, List}
 use Rattle.ads1299.specs.declared.Converter.{Converter}
-use Rattle.ads1299.specs.declared.Moved.{Moved}
+use Rattle.ads1299.specs.Answers.{Moved}
 use Rattle.ads1299_serial.specs.declared.Output.{Output}
 use Rattle.ads1299_serial.specs.declared.Phase.{Phase}
 

@@ -4,7 +4,7 @@ use Rattle.refusal.specs.Numbers.{none, invalid_state}
 use Rattle.ads1299_registers.specs.Addresses.{ID}
 use Rattle.ads1299.specs.declared.Converter.{Converter}
 use Rattle.ads1299_serial.specs.declared.Transfer.{Transfer}
-use Rattle.ads1299.specs.declared.Stepped.{Stepped}
+use Rattle.ads1299.specs.Answers.{Stepped}
 use Rattle.ads1299_serial.specs.declared.Direction.{Direction}
 use Rattle.ads1299_serial.specs.declared.Direction.TheVariants.{Read, Write}
 use Rattle.ads1299_serial.specs.declared.Phase.{Phase}

@@ -8,6 +8,7 @@ mod step;
 mod validity;
 
 use ads1299_serial::{Output, Phase};
+use refusal::Refusal;
 
 // The order of the fields keeps each array at a multiple of 16 bytes.
 #[derive(Clone, Copy)]
@@ -23,21 +24,16 @@ pub struct Converter {
     pub phase: Phase,
 }
 
+// What power-up answers. No Result: a refused power-up hands back a converter too (document 01, "Refusal numbers").
 #[derive(Clone, Copy)]
-pub struct PoweredUp {
-    pub refusal: u8,
+pub struct Startup {
+    pub refusal: Option<Refusal>,
     pub converter: Converter,
 }
 
+// The byte that goes out, and the converter after the byte that came in.
 #[derive(Clone, Copy)]
-pub struct Stepped {
-    pub refusal: u8,
+pub struct Exchange {
     pub out: u8,
-    pub next: Converter,
-}
-
-#[derive(Clone, Copy)]
-pub struct Moved {
-    pub refusal: u8,
     pub next: Converter,
 }

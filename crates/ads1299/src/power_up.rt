@@ -1,9 +1,11 @@
 // Power-up: the one rule by which a converter comes into being.
 ghost use Rattle.std.specs.Prelude.{◌≡◌};
 ghost use Rattle.ads1299.specs.PowerUp.{valid_id, restored, powered_up};
+ghost use Rattle.ads1299.specs.Answers.{power_up_answer};
 
-use crate::{Converter, PoweredUp};
+use crate::{Converter, Startup};
 use ads1299_serial::{Output, Phase};
+use refusal::Refusal;
 
 impl Converter {
     // CH1SET to CH8SET at power-up: gain 24, inputs shorted. Document 000's register overview (Table 11) decides; document 02, No. 2
@@ -92,20 +94,20 @@ impl Converter {
         }
     }
 
-    pub fn power_up(id: u8) -> PoweredUp
-        ensures { result ≡ powered_up id }
+    pub fn power_up(id: u8) -> Startup
+        ensures { power_up_answer result ≡ powered_up id }
     {
         let owners = [parties::ADMIN; ads1299_registers::CHANNELS];
         if Self::is_valid_id(id) {
             let converter = Self::restore(id, owners);
-            PoweredUp {
-                refusal: refusal::NONE,
+            Startup {
+                refusal: None,
                 converter,
             }
         } else {
             let converter = Self::restore(0, owners);
-            PoweredUp {
-                refusal: refusal::INVALID_STATE,
+            Startup {
+                refusal: Some(Refusal::InvalidState),
                 converter,
             }
         }

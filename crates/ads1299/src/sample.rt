@@ -1,8 +1,11 @@
 // Samples: what the converter makes of eight codes and the two comparator bytes.
 ghost use Rattle.std.specs.Prelude.{◌≡◌};
+ghost use Rattle.refusal.specs.Refusals.{answer_number};
+ghost use Rattle.ads1299.specs.Answers.{moved_answer};
 ghost use Rattle.ads1299.specs.Sample.{running, complete, sample_refusal, with_status, taken, sampled};
 
-use crate::{Converter, Moved};
+use crate::Converter;
+use refusal::Refusal;
 
 impl Converter {
     // Whether the converter takes samples.
@@ -23,18 +26,18 @@ impl Converter {
     }
 
     // The tests in the order of document 01.
-    fn refuse_sample(self, codes: &[i32]) -> u8
-        ensures { result ≡ sample_refusal self codes.now }
+    fn judge_sample(self, codes: &[i32]) -> Result<(), Refusal>
+        ensures { answer_number result ≡ sample_refusal self codes.now }
     {
         let valid = self.is_valid();
         let running = self.is_running();
         let complete = Self::is_complete(codes);
-        let numbers = [
-            refusal::when(!valid, refusal::INVALID_STATE),
-            refusal::when(!running, refusal::NOT_CONVERTING),
-            refusal::when(!complete, refusal::BAD_SAMPLE),
+        let tests = [
+            refusal::when(!valid, Refusal::InvalidState),
+            refusal::when(!running, Refusal::NotConverting),
+            refusal::when(!complete, Refusal::BadSample),
         ];
-        refusal::first_of(&numbers)
+        refusal::first_of(&tests)
     }
 
     fn with_status(
@@ -65,21 +68,10 @@ impl Converter {
     }
 
     // Takes a sample: the codes of channels 1 to 8, and the comparator bytes P and N.
-    pub fn sample(self, codes: &[i32], p: u8, n: u8) -> Moved
-        ensures { result ≡ sampled self codes.now p n }
+    pub fn sample(self, codes: &[i32], p: u8, n: u8) -> Result<Converter, Refusal>
+        ensures { moved_answer self result ≡ sampled self codes.now p n }
     {
-        let number = self.refuse_sample(codes);
-        if number == refusal::NONE {
-            let next = self.take(codes, p, n);
-            Moved {
-                refusal: refusal::NONE,
-                next,
-            }
-        } else {
-            Moved {
-                refusal: number,
-                next: self,
-            }
-        }
+        self.judge_sample(codes)?;
+        Ok(self.take(codes, p, n))
     }
 }

@@ -5,10 +5,12 @@ ghost use Rattle.ads1299.specs.State.{with_output, with_phase, with_standby, wit
 ghost use Rattle.ads1299.specs.Output.{loaded, ignored};
 ghost use Rattle.ads1299.specs.Step.{held, effect, commanded, counted, outgoing, followed, stepped};
 ghost use Rattle.ads1299.specs.Deselect.{deselected};
+ghost use Rattle.ads1299.specs.Answers.{step_answer, moved_answer};
 
-use crate::{Converter, Moved, Stepped};
+use crate::{Converter, Exchange};
 use ads1299_commands::Command;
 use ads1299_serial::{Direction, Output, Phase, Transfer};
+use refusal::Refusal;
 
 impl Converter {
     // What stands at an address: 0 above the last register.
@@ -194,41 +196,25 @@ impl Converter {
     }
 
     // Takes a byte in and gives one out.
-    pub fn step(self, byte: u8) -> Stepped
-        ensures { result ≡ stepped self byte }
+    pub fn step(self, byte: u8) -> Result<Exchange, Refusal>
+        ensures { step_answer self result ≡ stepped self byte }
     {
-        if self.is_valid() {
-            let out = self.outgoing_byte();
-            let next = self.follow(byte);
-            Stepped {
-                refusal: refusal::NONE,
-                out,
-                next,
-            }
-        } else {
-            Stepped {
-                refusal: refusal::INVALID_STATE,
-                out: 0,
-                next: self,
-            }
+        if !self.is_valid() {
+            return Err(Refusal::InvalidState);
         }
+        Ok(Exchange {
+            out: self.outgoing_byte(),
+            next: self.follow(byte),
+        })
     }
 
     // The select line rises: a command half given ends, and the output is empty.
-    pub fn deselect(self) -> Moved
-        ensures { result ≡ deselected self }
+    pub fn deselect(self) -> Result<Converter, Refusal>
+        ensures { moved_answer self result ≡ deselected self }
     {
-        if self.is_valid() {
-            let next = self.with_output(Output::Empty).with_phase(Phase::Waiting);
-            Moved {
-                refusal: refusal::NONE,
-                next,
-            }
-        } else {
-            Moved {
-                refusal: refusal::INVALID_STATE,
-                next: self,
-            }
+        if !self.is_valid() {
+            return Err(Refusal::InvalidState);
         }
+        Ok(self.with_output(Output::Empty).with_phase(Phase::Waiting))
     }
 }

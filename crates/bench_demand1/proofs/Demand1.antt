@@ -10,7 +10,7 @@ use Rattle.refusal.specs.First.{first_of, accepted, Exact}
 use Rattle.refusal.proofs.First.{exact}
 use Rattle.ads1299_codes.specs.declared.Rail.TheVariants.{Neither}
 use Rattle.ads1299.specs.declared.Converter.{Converter}
-use Rattle.ads1299.specs.declared.Moved.{Moved}
+use Rattle.ads1299.specs.Answers.{Moved}
 use Rattle.ads1299.specs.Sample.{sampled}
 use Rattle.grants.specs.Grant.{granted}
 use Rattle.readings.specs.declared.Reading.{Reading}

@@ -8,7 +8,7 @@ use lib.Dec.{eqb}
 use lib.ListN.{set}
 use Rattle.cases.proofs.Cases.{split}
 use Rattle.refusal.specs.Numbers.{none}
-use Rattle.ads1299.specs.declared.Moved.{Moved}
+use Rattle.ads1299.specs.Answers.{Moved}
 use Rattle.ads1299.specs.State.{with_owners}
 use Rattle.grants.specs.Grant.{reassigned, granted}
 use Rattle.grants.proofs.Accepted.{grant_number, grantable}

@@ -6,8 +6,8 @@ use mathlib.Core.List.{List}
 use Rattle.cases.proofs.Cases.{split}
 use Rattle.refusal.specs.First.{accepted}
 use Rattle.ads1299.specs.declared.Converter.{Converter}
-use Rattle.ads1299.specs.declared.Moved.{Moved}
-use Rattle.ads1299.specs.declared.Stepped.{Stepped}
+use Rattle.ads1299.specs.Answers.{Moved}
+use Rattle.ads1299.specs.Answers.{Stepped}
 use Rattle.ads1299.specs.Step.{stepped}
 use Rattle.ads1299.specs.Deselect.{deselected}
 use Rattle.ads1299.specs.Sample.{sampled}

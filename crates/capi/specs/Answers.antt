@@ -7,9 +7,9 @@ use Rattle.ads1299_codes.specs.declared.Rail.TheVariants.{Neither}
 use Rattle.request.specs.declared.Parsed.{Parsed}
 use Rattle.request.specs.declared.Written.{Written}
 use Rattle.ads1299.specs.declared.Converter.{Converter}
-use Rattle.ads1299.specs.declared.PoweredUp.{PoweredUp}
-use Rattle.ads1299.specs.declared.Stepped.{Stepped}
-use Rattle.ads1299.specs.declared.Moved.{Moved}
+use Rattle.ads1299.specs.Answers.{PoweredUp}
+use Rattle.ads1299.specs.Answers.{Stepped}
+use Rattle.ads1299.specs.Answers.{Moved}
 use Rattle.readings.specs.declared.Reading.{Reading}
 use Rattle.readings.specs.Reading.{channel_reading, part_bytes, part_place}
 use Rattle.planner.specs.declared.Planned.{Planned}

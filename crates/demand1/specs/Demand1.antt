@@ -12,9 +12,9 @@ use Rattle.request.specs.declared.Written.{Written}
 use Rattle.request.specs.Reading.{read_refusals, refused, parsed}
 use Rattle.request.specs.Writing.{write_refusals, written, buffer_after}
 use Rattle.ads1299.specs.declared.Converter.{Converter}
-use Rattle.ads1299.specs.declared.PoweredUp.{PoweredUp}
-use Rattle.ads1299.specs.declared.Stepped.{Stepped}
-use Rattle.ads1299.specs.declared.Moved.{Moved}
+use Rattle.ads1299.specs.Answers.{PoweredUp}
+use Rattle.ads1299.specs.Answers.{Stepped}
+use Rattle.ads1299.specs.Answers.{Moved}
 use Rattle.parties.specs.Parties.{admin}
 use Rattle.ads1299.specs.PowerUp.{valid_id, restored, powered_up}
 use Rattle.ads1299.specs.State.{moved}

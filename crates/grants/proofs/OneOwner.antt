@@ -12,7 +12,7 @@ use Rattle.refusal.specs.Numbers.{none}
 use Rattle.refusal.specs.First.{accepted}
 use Rattle.ads1299_registers.specs.Addresses.{channel_count}
 use Rattle.ads1299.specs.declared.Converter.{Converter}
-use Rattle.ads1299.specs.declared.Moved.{Moved}
+use Rattle.ads1299.specs.Answers.{Moved}
 use Rattle.ads1299.specs.State.{with_owners, moved}
 use Rattle.ads1299.specs.Validity.{valid}
 use Rattle.ads1299.proofs.ValidState.{parts, whole}

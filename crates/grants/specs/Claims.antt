@@ -3,7 +3,7 @@ use Rattle.std.specs.Prelude.{ℕ, ◌≡◌, true, cond, eqb, length}
 use Rattle.refusal.specs.Numbers.{none}
 use Rattle.ads1299_registers.specs.Addresses.{channel_count}
 use Rattle.ads1299.specs.declared.Converter.{Converter}
-use Rattle.ads1299.specs.declared.Moved.{Moved}
+use Rattle.ads1299.specs.Answers.{Moved}
 use Rattle.ads1299.specs.State.{with_owners}
 use Rattle.ads1299.specs.Validity.{valid}
 use Rattle.parties.specs.Owners.{owner_of}

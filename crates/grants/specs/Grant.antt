@@ -3,7 +3,7 @@ use Rattle.std.specs.Prelude.{ℕ, ◌-◌, Bool, cond, not, List, [], ◌∷◌
 use Rattle.refusal.specs.Numbers.{none, unknown_party, wrong_channel, not_owner, invalid_state}
 use Rattle.refusal.specs.First.{first_of, accepted}
 use Rattle.ads1299.specs.declared.Converter.{Converter}
-use Rattle.ads1299.specs.declared.Moved.{Moved}
+use Rattle.ads1299.specs.Answers.{Moved}
 use Rattle.ads1299.specs.State.{with_owners, moved}
 use Rattle.ads1299.specs.Validity.{valid}
 use Rattle.parties.specs.Parties.{known_party, is_admin}

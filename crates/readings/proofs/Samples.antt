@@ -20,7 +20,7 @@ use Rattle.ads1299_readout.specs.Reading.{is_frame}
 use Rattle.ads1299_readout.specs.RoundTrip.{ReadsBack, ShowsZero}
 use Rattle.ads1299_readout.proofs.RoundTrip.{frames_read_back, powered_down_shows_zero}
 use Rattle.ads1299.specs.declared.Converter.{Converter}
-use Rattle.ads1299.specs.declared.Moved.{Moved}
+use Rattle.ads1299.specs.Answers.{Moved}
 use Rattle.parties.specs.Parties.{largest_party}
 use Rattle.ads1299.specs.Validity.{valid}
 use Rattle.ads1299.specs.Output.{loaded}

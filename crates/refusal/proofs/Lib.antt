@@ -1,2 +1,3 @@
 pub mod Figures
 pub mod First
+pub mod Laws

@@ -2,10 +2,10 @@ use Rattle.ads1299.specs.Deselect.{deselected}
 use Rattle.ads1299.specs.Output.{emptied}
 use Rattle.ads1299.proofs.Converter.deselect.Goals as goal
 
-pub returns-then-is_valid : goal.returns-then-is_valid
+pub returns : goal.returns
 unfolding deselected emptied
-returns-then-is_valid c = simp (← c.is_valid.ensures, c.if-is_valid.true, c.with_output.ensures, c.with_phase-next.ensures)
+returns c = simp (← c.is_valid.ensures, c.if-not-is_valid.false, c.with_output.ensures, c.with_phase.ensures)
 
-pub returns-else-is_valid : goal.returns-else-is_valid
+pub returns-then-not-is_valid : goal.returns-then-not-is_valid
 unfolding deselected emptied
-returns-else-is_valid c = simp (← c.is_valid.ensures, c.if-is_valid.false)
+returns-then-not-is_valid c = simp (← c.is_valid.ensures, c.if-not-is_valid.true)

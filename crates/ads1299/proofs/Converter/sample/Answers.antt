@@ -1,11 +1,13 @@
+use Rattle.std.proofs.lemmas.Result.{err_from_is_err_and}
+use Rattle.refusal.proofs.Laws.{refused_lem}
 use Rattle.ads1299.specs.Sample.{sampled}
-use borrow.Author.Tests.{eq-eqb, ne_eqb}
 use Rattle.ads1299.proofs.Converter.sample.Goals as goal
 
-pub returns-then-number-eq-NONE : goal.returns-then-number-eq-NONE
+pub returns : goal.returns
 unfolding sampled
-returns-then-number-eq-NONE c = simp (← c.refuse_sample-number.ensures, eq-eqb _ _ c.if-number-eq-NONE.true, ← c.take-next.ensures)
+returns c = simp (← c.in_ok-judge_sample.ensures, ← c.take.ensures)
 
-pub returns-else-number-eq-NONE : goal.returns-else-number-eq-NONE
+pub returns-in_err-judge_sample : goal.returns-in_err-judge_sample
 unfolding sampled
-returns-else-number-eq-NONE c = simp (← c.refuse_sample-number.ensures, ne_eqb _ _ c.if-number-eq-NONE.false)
+returns-in_err-judge_sample c = let p = err_from_is_err_and c.from_residual.result c.from_residual.ensures.1 in
+    rw (p.1, p.2) (simp (← c.in_err-judge_sample.ensures, refused_lem c.in_err-judge_sample.field-0.0))

@@ -1,10 +1,10 @@
 use Rattle.ads1299.specs.Step.{stepped}
 use Rattle.ads1299.proofs.Converter.step.Goals as goal
 
-pub returns-then-is_valid : goal.returns-then-is_valid
+pub returns : goal.returns
 unfolding stepped
-returns-then-is_valid c = simp (← c.is_valid.ensures, c.if-is_valid.true, ← c.outgoing_byte-out.ensures, ← c.follow-next.ensures)
+returns c = simp (← c.is_valid.ensures, c.if-not-is_valid.false, ← c.outgoing_byte.ensures, ← c.follow.ensures)
 
-pub returns-else-is_valid : goal.returns-else-is_valid
+pub returns-then-not-is_valid : goal.returns-then-not-is_valid
 unfolding stepped
-returns-else-is_valid c = simp (← c.is_valid.ensures, c.if-is_valid.false)
+returns-then-not-is_valid c = simp (← c.is_valid.ensures, c.if-not-is_valid.true)

@@ -3,7 +3,7 @@ use Prim.Native.Nat.{ℕ}
 use mathlib.Core.Path.{◌≡◌, ◌∙◌, ap}
 use lib.Dec.{eqb}
 use Rattle.cases.proofs.Cases.{split}
-use Rattle.ads1299.specs.declared.PoweredUp.{PoweredUp}
+use Rattle.ads1299.specs.Answers.{PoweredUp}
 use Rattle.ads1299.specs.PowerUp.{valid_id, powered_up}
 use Rattle.bench.proofs.Bench.is_valid_id.Goals as goal
 

@@ -3,7 +3,7 @@ use Rattle.refusal.specs.Numbers.{invalid_state, not_converting, bad_sample}
 use Rattle.refusal.proofs.First.{walked, says}
 use mathlib.Core.List.{[], ◌∷◌}
 use mathlib.Core.Path.{refl}
-use Rattle.ads1299.proofs.Converter.refuse_sample.Goals as goal
+use Rattle.ads1299.proofs.Converter.judge_sample.Goals as goal
 
 pub returns : goal.returns
 unfolding sample_refusal
