@@ -5,7 +5,7 @@ ghost use Rattle.flat.specs.States.{are_flags, is_output, is_phase, is_state, di
 use super::codes::{AT_PLACE, COUNTING, EMPTY, HELD, ON, WAITING, WRITE};
 use crate::FlatConverter;
 use ads1299::Converter;
-use ads1299_serial::{Direction, Output, Phase, Transfer};
+use ads1299_serial::{Direction, Phase, Transfer};
 
 fn are_flags(continuous: u8, standby: u8, converting: u8) -> bool
     ensures { result ≡ are_flags continuous standby converting }
@@ -67,13 +67,13 @@ fn direction_of(code: u8) -> Direction
     }
 }
 
-fn output_of(code: u8, place: u8) -> Output
+fn output_of(code: u8, place: u8) -> Option<u8>
     ensures { result ≡ output_of code place }
 {
     if code == AT_PLACE {
-        Output::At(place)
+        Some(place)
     } else {
-        Output::Empty
+        None
     }
 }
 

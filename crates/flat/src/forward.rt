@@ -5,7 +5,7 @@ ghost use Rattle.flat.specs.Flat.{flag_code, direction_code, output_code, place_
 use super::codes::{AT_PLACE, COUNTING, EMPTY, HELD, OFF, ON, READ, WAITING, WRITE};
 use crate::FlatConverter;
 use ads1299::Converter;
-use ads1299_serial::{Direction, Output, Phase, Transfer};
+use ads1299_serial::{Direction, Phase, Transfer};
 
 pub fn flag_code(flag: bool) -> u8
     ensures { result ≡ flag_code flag }
@@ -22,21 +22,21 @@ fn direction_code(direction: Direction) -> u8
     }
 }
 
-fn output_code(output: Output) -> u8
+fn output_code(output: Option<u8>) -> u8
     ensures { result ≡ output_code output }
 {
     match output {
-        Output::Empty => EMPTY,
-        Output::At(_) => AT_PLACE,
+        None => EMPTY,
+        Some(_) => AT_PLACE,
     }
 }
 
-fn place_of(output: Output) -> u8
+fn place_of(output: Option<u8>) -> u8
     ensures { result ≡ place_of output }
 {
     match output {
-        Output::Empty => 0,
-        Output::At(place) => place,
+        None => 0,
+        Some(place) => place,
     }
 }
 

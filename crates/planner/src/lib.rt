@@ -20,7 +20,6 @@ use ads1299::Converter;
 use ads1299_commands::{RDATAC, SDATAC, STANDBY, WAKEUP, WREG};
 use ads1299_fields::WHOLE_CHANNEL;
 use ads1299_registers::{BIAS_SENSP, CH1SET, COUNT, LOFF_FLIP};
-use ads1299_serial::Output;
 use fields::{are_legal, set_all};
 use lengths::{count_room, plan_length};
 use request::Request;
@@ -161,7 +160,7 @@ fn change(c: Converter, request: Request) -> Converter
     let registers = set_all(before, request);
     Converter {
         registers,
-        output: Output::Empty,
+        output: None,
         ..c
     }
 }
