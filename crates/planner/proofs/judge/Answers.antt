@@ -8,11 +8,11 @@ use Rattle.ads1299_settings.specs.Registers.{field_of}
 use lib.Dec.{ltb}
 use mathlib.Core.List.{[], ◌∷◌}
 use mathlib.Core.Path.{refl, ap, ◌∙◌}
-use Rattle.planner.proofs.refuse.Goals as goal
+use Rattle.planner.proofs.judge.Goals as goal
 
-pub returns : goal.returns
+pub returns-clause-judged : goal.returns-clause-judged
 unfolding refusal_of judged
-returns c =
+returns-clause-judged c =
     let a = c.args in
     walked (refusals a.c (field_of a.c.registers) (record { party = a.party; request = a.request; room = a.room })) refl c.first_of.ensures
     (λ i. says invalid_state c.when.ensures c.is_valid-valid.ensures i
