@@ -78,6 +78,7 @@ fn classify(code: i32) -> Rail
 }
 
 // Decodes three bytes, high byte first.
+#[tactic(auto, unfolding(crate::specs::Rails::decoded))]
 pub fn decode(high: u8, middle: u8, low: u8) -> Decoded
     ensures { result ≡ decoded (code_of (word high middle low)) }
 {
@@ -107,6 +108,7 @@ fn word_of(code: i32) -> u32
 }
 
 // The three bytes of a code, high byte first. A code out of range is cut to its low 24 bits.
+#[tactic(auto, unfolding(crate::specs::Words::word_bytes))]
 pub fn code_bytes(code: i32) -> [u8; WORD_LENGTH]
     ensures { result ≡ word_bytes (word_of code) }
 {
