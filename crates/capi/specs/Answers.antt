@@ -4,8 +4,8 @@ use Rattle.std.specs.Prelude.{ℕ, cond, List, pos, length}
 use Rattle.refusal.specs.Numbers.{invalid_state}
 use Rattle.ads1299_codes.specs.Rails.{rail_number}
 use Rattle.ads1299_codes.specs.declared.Rail.TheVariants.{Neither}
-use Rattle.request.specs.declared.Parsed.{Parsed}
-use Rattle.request.specs.declared.Written.{Written}
+use Rattle.request.specs.Answers.{Parsed}
+use Rattle.request.specs.Answers.{Written}
 use Rattle.ads1299.specs.declared.Converter.{Converter}
 use Rattle.ads1299.specs.Answers.{PoweredUp}
 use Rattle.ads1299.specs.Answers.{Stepped}

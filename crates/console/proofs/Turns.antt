@@ -10,7 +10,7 @@ use lib.Seq.{take_at}
 use Rattle.cases.proofs.Cases.{split}
 use Rattle.refusal.specs.Numbers.{none}
 use Rattle.refusal.specs.First.{accepted}
-use Rattle.request.specs.declared.Parsed.{Parsed}
+use Rattle.request.specs.Answers.{Parsed}
 use Rattle.request.specs.Requests.{fewest_numbers}
 use Rattle.request.specs.Reading.{parsed}
 use Rattle.request.proofs.Reading.{few_values}

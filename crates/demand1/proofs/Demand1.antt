@@ -14,7 +14,7 @@ use Rattle.refusal.proofs.First.{exact}
 use Rattle.leb128.specs.Numbers.{base, groups}
 use Rattle.leb128.specs.Decoding.{decoded}
 use Rattle.leb128.specs.Series.{series}
-use Rattle.request.specs.declared.Parsed.{Parsed}
+use Rattle.request.specs.Answers.{Parsed}
 use Rattle.request.specs.Reading.{numbers_in, numbers_read, read_refusals, read_refusal, refused, parsed}
 use Rattle.request.specs.Writing.{write_refusals, write_refusal, written, buffer_after}
 use Rattle.ads1299.specs.declared.Converter.{Converter}

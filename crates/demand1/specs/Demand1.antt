@@ -7,8 +7,8 @@ use Rattle.refusal.specs.First.{first_of, accepted, Exact}
 use Rattle.ads1299_registers.specs.Addresses.{channel_count}
 use Rattle.ads1299_codes.specs.declared.Rail.TheVariants.{Neither}
 use Rattle.request.specs.declared.Request.{Request}
-use Rattle.request.specs.declared.Parsed.{Parsed}
-use Rattle.request.specs.declared.Written.{Written}
+use Rattle.request.specs.Answers.{Parsed}
+use Rattle.request.specs.Answers.{Written}
 use Rattle.request.specs.Reading.{read_refusals, refused, parsed}
 use Rattle.request.specs.Writing.{write_refusals, written, buffer_after}
 use Rattle.ads1299.specs.declared.Converter.{Converter}

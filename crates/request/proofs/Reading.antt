@@ -1,82 +1,65 @@
 -- A series that is read number by number, and the request that its numbers are.
-use mathlib.Core.Bool.{cond}
-use mathlib.Core.List.{List, [], ◌∷◌, ◌++◌}
+use mathlib.Core.List.{List, [], ◌∷◌, ◌++◌, append-nil, append_assoc}
 use mathlib.Core.Path.{◌≡◌, refl, sym, ap, ◌∙◌}
 use Prim.Native.Nat.{ℕ, zero, suc, ◌+◌, ◌-◌, ◌≤◌, ◌<◌}
 use native.Mathlib.Nat.{zero-add, add-zero, add_assoc}
-use native.Mathlib.Numerals.{add-one}
 use native.Mathlib.Omega.{arith}
 use borrow.Author.Tests.{eq-eqb, ne_eqb}
 use lib.Dec.{eqb}
-use lib.ListN.{length, drop, get_or, set, length-drop, drop_of_length-le}
-use lib.Seq.{sets, sets-eq, drop-cons, drop-drop}
+use lib.ListN.{length, drop, length-append, length-drop}
+use lib.Seq.{drop-drop}
 use Rattle.refusal.specs.Numbers.{none}
-use Rattle.refusal.specs.First.{first_of, accepted}
+use Rattle.refusal.specs.First.{first_of}
 use Rattle.ads1299_fields.specs.Names.{whole_channel}
 use Rattle.cases.proofs.Cases.{split}
 use Rattle.leb128.specs.Answers.{Number}
 use Rattle.leb128.specs.Numbers.{groups}
-use Rattle.leb128.specs.Encoding.{padded}
 use Rattle.leb128.specs.Decoding.{decoded}
-use Rattle.leb128.specs.Series.{Series, followed_by, series}
+use Rattle.leb128.specs.Series.{followed_by, series}
 use Rattle.leb128.proofs.RoundTrip.{round_trip}
 use Rattle.leb128.proofs.Series.{series_round_trip}
-use Rattle.request.specs.declared.Numbers.{Numbers}
-use Rattle.request.specs.declared.Parsed.{Parsed}
-use Rattle.request.specs.Requests.{most_values, fewest_numbers, most_numbers, value_count, request, request_of}
-use Rattle.request.specs.Reading.{numbers_in, numbers_read, series_read, read_refusal, parsed}
-use Rattle.request.proofs.Padding.{zeros, drop_zeros, length_padded, padded_whole}
+use Rattle.request.specs.Requests.{most_values, fewest_numbers, most_numbers, value_count, request_of}
+use Rattle.request.specs.Reading.{numbers_in, numbers_read, read_refusal, refused, parsed}
 
--- the answer that a loop comes to which has stored the numbers before place i, and has the rest of the series before it
-abbrev pub continued : List ℕ → ℕ → ℕ → Series → Numbers
-continued numbers i used rest =
-    cond (accepted (first_of rest.refusals))
-    (record { refusal = none; numbers = sets numbers i rest.numbers; used = used + rest.used })
-    (record { refusal = first_of rest.refusals; numbers = zeros most_numbers; used = 0 })
+-- the numbers that were read so far, and the series of those left, are the whole
+pub record Halfway (count : ℕ) (bytes numbers : List ℕ) (used i : ℕ) : Type 0 where
+  pub within : used ≤ length bytes
+  pub many : length numbers ≡ i
+  pub judged : first_of (series groups count bytes).refusals ≡ first_of (series groups (count - i) (drop used bytes)).refusals
+  pub same : (series groups count bytes).numbers ≡ numbers ++ (series groups (count - i) (drop used bytes)).numbers
+  pub counted : (series groups count bytes).used ≡ used + (series groups (count - i) (drop used bytes)).used
 
-stored : (l : List ℕ) → length l ≤ most_numbers → sets (zeros most_numbers) 0 l ≡ padded most_numbers l
-unfolding padded
-stored l h =
-    sets-eq l (zeros most_numbers) 0 (omega arith)
-    ∙ rw (zero-add (length l)) (ap (λ (r : List ℕ). l ++ r) (drop_zeros (length l) most_numbers h))
-
-pub begins : (count : ℕ) (bytes : List ℕ) → count ≤ most_numbers → series_read count bytes ≡ continued (zeros most_numbers) 0 0 (series groups (count - 0) bytes)
-unfolding series_read padded
-begins count bytes h =
-    let n = (series_round_trip groups (omega arith)).many count bytes in
-    let e : count - 0 ≡ count = omega arith in
-    rw (e, stored (series groups count bytes).numbers (omega arith), zero-add)
+pub begins : (count : ℕ) (bytes : List ℕ) → Halfway count bytes [] 0 0
+begins count bytes = let e : count - 0 ≡ count = omega arith in
+    record { within = omega arith; many = refl; judged = rw e refl; same = rw e refl; counted = rw (e, zero-add) refl }
 
 -- one number more: the loop is at place i
-module _ (bytes : List ℕ) (count : ℕ) (numbers : List ℕ) (used i : ℕ) (more : i < count) (number : Number) (is : number ≡ decoded groups (drop used bytes)) where
+module _ {count : ℕ} {bytes numbers : List ℕ} {used i : ℕ} (so_far : Halfway count bytes numbers used i) (more : i < count) (number : Number) (is : number ≡ decoded groups (drop used bytes)) where
   next : series groups (count - i) (drop used bytes) ≡ followed_by number (series groups (count - (i + 1)) (drop (used + number.used) bytes))
   unfolding series
   next = let e : count - i ≡ suc (count - (i + 1)) = omega arith in rw (e, ← is, drop-drop)
 
-  pub stops : (number.refusal ≡ none → ⊥) → continued numbers i used (series groups (count - i) (drop used bytes)) ≡ record { refusal = number.refusal; numbers = zeros most_numbers; used = 0 }
-  stops h = simp (next, ne_eqb number.refusal none h)
+  pub stops : (number.refusal ≡ none → ⊥) → number.refusal ≡ first_of (series groups count bytes).refusals
+  stops h = simp (so_far.judged, next, ne_eqb number.refusal none h)
 
-  pub goes_on : number.refusal ≡ none
-      → continued numbers i used (series groups (count - i) (drop used bytes))
-      ≡ continued (set numbers i number.value) (i + 1) (used + number.used) (series groups (count - (i + 1)) (drop (used + number.used) bytes))
-  goes_on h = rw (next, eq-eqb number.refusal none h, ← add_assoc, add-one)
+  pub within_more : used + number.used ≤ length bytes
+  within_more = rw is (omega (arith, so_far.within, length-drop used bytes, ((round_trip groups (omega arith)).counted (drop used bytes)).within))
 
-  pub within : used ≤ length bytes → used + number.used ≤ length bytes
-  within h = rw is (omega (arith, length-drop used bytes, ((round_trip groups (omega arith)).counted (drop used bytes)).within))
+  pub goes_on : number.refusal ≡ none → Halfway count bytes (numbers ++ number.value ∷ []) (used + number.used) (i + 1)
+  goes_on h =
+      record {
+        within = within_more;
+        many = omega (arith, length-append numbers (number.value ∷ []), so_far.many);
+        judged = so_far.judged ∙ rw (next, eq-eqb number.refusal none h);
+        same = so_far.same ∙ rw (next, append_assoc);
+        counted = so_far.counted ∙ rw (next, add_assoc);
+      }
 
-pub ends : (bytes : List ℕ) (count : ℕ) (numbers : List ℕ) (used i : ℕ) → count ≤ i
-    → continued numbers i used (series groups (count - i) (drop used bytes)) ≡ record { refusal = none; numbers = numbers; used = used }
+pub ends : {count : ℕ} {bytes numbers : List ℕ} {used i : ℕ} → Halfway count bytes numbers used i → count ≤ i
+    → (none ≡ first_of (series groups count bytes).refusals) × ((numbers ≡ (series groups count bytes).numbers) × (used ≡ (series groups count bytes).used))
 unfolding series
-ends bytes count numbers used i h = let e : count - i ≡ 0 = omega arith in rw (e, add-zero)
-
--- so many elements of a list, one by one from a place on
-abbrev elements : ℕ → ℕ → List ℕ → List ℕ
-elements zero at l = []
-elements (suc n) at l = get_or l at 0 ∷ elements n (suc at) l
-
-pub elements_are : (n at : ℕ) (l : List ℕ) → at + n ≡ length l → elements n at l ≡ drop at l
-elements_are zero at l e = sym (drop_of_length-le l {i = at} (omega arith))
-elements_are (suc n) at l e = rw (drop-cons l at 0 (omega arith), elements_are n (suc at) l (omega arith))
+ends {count} {bytes} {numbers} {used} {i} so_far h = let e : count - i ≡ 0 = omega arith in
+    (sym (so_far.judged ∙ rw e), (sym (so_far.same ∙ rw e (append-nil numbers)), sym (so_far.counted ∙ rw e (add-zero used))))
 
 pub few_values : (f : ℕ) → (1 ≤ value_count f) × (value_count f ≤ most_values)
 few_values f = split (eqb f whole_channel) (λ a. rw a (omega arith, omega arith)) (λ a. rw a (omega arith, omega arith))
@@ -85,26 +68,31 @@ pub numbers_between : (bytes : List ℕ) → (fewest_numbers ≤ numbers_in byte
 unfolding numbers_in
 numbers_between bytes = let b = few_values (decoded groups bytes).value in (omega arith, omega arith)
 
--- the request of an array of numbers is that of the numbers in it
-array_request : (l : List ℕ) → 2 ≤ length l → length l ≤ most_numbers → request_of (padded most_numbers l) ≡ request_of l
-unfolding request_of padded
-array_request [] a b = absurd (omega arith)
-array_request (f ∷ []) a b = absurd (omega arith)
-array_request (f ∷ c ∷ vs) a b =
-    let e : most_numbers - length (f ∷ c ∷ vs) ≡ most_values - length vs = omega arith in
-    let n = length_padded most_values vs (omega arith) in
-    rw (e, padded_whole most_values (padded most_values vs) n)
+-- The reader's answer, by what the numbers come to. A field that is refused is the first refusal of all.
+module _ (bytes : List ℕ) where
+  first_refused : (count : ℕ) → 0 < count → ((decoded groups bytes).refusal ≡ none → ⊥) → first_of (series groups count bytes).refusals ≡ (decoded groups bytes).refusal
+  unfolding series
+  first_refused zero more h = absurd (omega arith)
+  first_refused (suc count) more h = rw (ne_eqb (decoded groups bytes).refusal none h)
 
-nothing : request_of (padded most_numbers []) ≡ request 0 0 []
-unfolding request_of padded
-nothing = refl
+  pub series_refused : (read_refusal bytes ≡ none → ⊥) → parsed bytes ≡ refused (read_refusal bytes)
+  unfolding parsed
+  series_refused h = rw (ne_eqb (read_refusal bytes) none h)
 
-pub answers : (bytes : List ℕ) (found : Numbers) → found ≡ series_read (numbers_in bytes) bytes
-    → ◌≡◌ {A = Parsed} (record { refusal = found.refusal; request = request_of found.numbers; used = found.used }) (parsed bytes)
-unfolding parsed read_refusal numbers_read series_read
-answers bytes found is =
-    let n = (series_round_trip groups (omega arith)).many (numbers_in bytes) bytes in
-    let b = numbers_between bytes in
-    split (accepted (read_refusal bytes))
-    (λ a. rw (is, a, array_request (numbers_read bytes).numbers (omega arith) (omega arith)))
-    (λ a. rw (is, a, nothing))
+  pub field_refused : ((decoded groups bytes).refusal ≡ none → ⊥) → parsed bytes ≡ refused (decoded groups bytes).refusal
+  unfolding read_refusal numbers_read
+  field_refused h =
+      let e : read_refusal bytes ≡ (decoded groups bytes).refusal = first_refused (numbers_in bytes) (omega (arith, (numbers_between bytes).0)) h in
+      series_refused (λ z. h (sym e ∙ z)) ∙ ap refused e
+
+  pub series_found : read_refusal bytes ≡ none → parsed bytes ≡ record { refusal = none; request = request_of (numbers_read bytes).numbers; used = (numbers_read bytes).used }
+  unfolding parsed
+  series_found h = rw (eq-eqb (read_refusal bytes) none h)
+
+  pub numbers_many : length (numbers_read bytes).numbers ≡ numbers_in bytes
+  unfolding numbers_read
+  numbers_many = (series_round_trip groups (omega arith)).many (numbers_in bytes) bytes
+
+  pub counting : (value used count : ℕ) → record { refusal = none; value = value; used = used } ≡ decoded groups bytes → count ≡ value_count value → 2 + count ≡ numbers_in bytes
+  unfolding numbers_in
+  counting value used count is counted = rw (← is, counted)

@@ -3,7 +3,7 @@ use Rattle.std.specs.Prelude.{cond, List, [], ◌∷◌, ◌++◌, ℕ, zero, su
 use Rattle.cases.specs.Figures.{Hold}
 use Rattle.refusal.specs.First.{accepted}
 use Rattle.refusal.specs.Numbers.{none, truncated, malformed}
-use Rattle.request.specs.declared.Parsed.{Parsed}
+use Rattle.request.specs.Answers.{Parsed}
 use Rattle.request.specs.Requests.{request, request_bytes}
 use Rattle.request.specs.Reading.{parsed, refused}
 

@@ -3,12 +3,10 @@ use Rattle.std.specs.Prelude.{Bool, cond, List, [], ℕ}
 use Rattle.refusal.specs.Numbers.{none}
 use Rattle.refusal.specs.First.{first_of, accepted}
 use Rattle.leb128.specs.Numbers.{groups}
-use Rattle.leb128.specs.Encoding.{padded}
 use Rattle.leb128.specs.Decoding.{decoded}
 use Rattle.leb128.specs.Series.{Series, series}
-use Rattle.request.specs.declared.Numbers.{Numbers}
-use Rattle.request.specs.declared.Parsed.{Parsed}
-use Rattle.request.specs.Requests.{most_numbers, value_count, numbers_with, request, request_of}
+use Rattle.request.specs.Answers.{Parsed}
+use Rattle.request.specs.Requests.{value_count, numbers_with, request, request_of}
 
 -- gives how many numbers are to be read: the field says it, whatever the channel
 unfoldable pub numbers_in : List ℕ → ℕ
@@ -25,13 +23,6 @@ read_refusals bytes = (numbers_read bytes).refusals
 -- gives the refusal of the first number that has one, or 0
 unfoldable pub read_refusal : List ℕ → ℕ
 read_refusal bytes = first_of (read_refusals bytes)
-
--- gives so many numbers as they are read, in an array for the most, 0 past them; or the refusal of the first that has one, all else 0
-unfoldable pub series_read : ℕ → List ℕ → Numbers
-series_read count bytes =
-    cond (accepted (first_of (series groups count bytes).refusals))
-    (record { refusal = none; numbers = padded most_numbers (series groups count bytes).numbers; used = (series groups count bytes).used })
-    (record { refusal = first_of (series groups count bytes).refusals; numbers = padded most_numbers []; used = 0 })
 
 -- gives the answer of a refusal: all else is 0
 abbrev pub refused : ℕ → Parsed

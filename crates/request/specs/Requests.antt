@@ -38,10 +38,6 @@ request field channel values = record { field = field; channel = channel; values
 unfoldable pub numbers_of : Request → List ℕ
 numbers_of r = r.field ∷ r.channel ∷ take (value_count r.field) r.values
 
--- gives a request's numbers with every value
-abbrev pub all_numbers : Request → List ℕ
-all_numbers r = r.field ∷ r.channel ∷ r.values
-
 -- gives the request that numbers are
 unfoldable pub request_of : List ℕ → Request
 request_of numbers = request (get_or numbers 0 0) (get_or numbers 1 0) (drop 2 numbers)

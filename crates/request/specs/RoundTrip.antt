@@ -6,7 +6,7 @@ use Rattle.leb128.specs.Numbers.{groups}
 use Rattle.leb128.specs.Encoding.{encoded}
 use Rattle.splice.specs.Splice.{spliced}
 use Rattle.request.specs.declared.Request.{Request}
-use Rattle.request.specs.declared.Parsed.{Parsed}
+use Rattle.request.specs.Answers.{Parsed}
 use Rattle.request.specs.Requests.{most_values, value_count, numbers_with, numbers_of, request_of}
 use Rattle.request.specs.Reading.{parsed}
 use Rattle.request.specs.Writing.{written, buffer_after}

@@ -1,13 +1,11 @@
 -- A request that is written into a buffer, from its start on.
-use Rattle.std.specs.Prelude.{Bool, cond, not, List, [], ◌∷◌, ℕ, ltb, length, take}
+use Rattle.std.specs.Prelude.{Bool, cond, not, List, [], ◌∷◌, ℕ, ltb, length}
 use Rattle.refusal.specs.Numbers.{none, bad_value, no_room}
 use Rattle.refusal.specs.First.{first_of, accepted}
-use Rattle.leb128.specs.Encoding.{padded}
 use Rattle.splice.specs.Splice.{spliced}
 use Rattle.request.specs.declared.Request.{Request}
-use Rattle.request.specs.declared.Written.{Written}
-use Rattle.request.specs.declared.Staged.{Staged}
-use Rattle.request.specs.Requests.{longest, request_bytes, writable}
+use Rattle.request.specs.Answers.{Written}
+use Rattle.request.specs.Requests.{request_bytes, writable}
 
 -- the refusals of a request in a buffer of so many bytes: first a number too large, then too little room
 abbrev pub write_refusals : Request → ℕ → List (Bool × ℕ)
@@ -28,11 +26,3 @@ written r buffer =
 unfoldable pub buffer_after : Request → List ℕ → List ℕ
 buffer_after r buffer =
     cond (accepted (write_refusal r (length buffer))) (spliced buffer 0 (request_bytes r)) buffer
-
--- gives bytes as they stand before they are copied: in an array for the longest request, 0 past them
-unfoldable pub staged : List ℕ → Staged
-staged bytes = record { bytes = padded longest bytes; used = length bytes }
-
--- gives the bytes that were staged
-unfoldable pub contents : Staged → List ℕ
-contents s = take s.used s.bytes

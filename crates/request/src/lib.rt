@@ -2,14 +2,19 @@
 // buffer.
 #![tactic(auto)]
 
-ghost use Rattle.std.specs.Prelude.{true, ◌++◌, ◌≡◌, ◌+◌, ◌≤◌, length};
-ghost use Rattle.leb128.specs.Numbers.{groups, largest};
-ghost use Rattle.leb128.specs.Decoding.{decoded};
-ghost use Rattle.leb128.specs.Encoding.{encoded};
-ghost use Rattle.leb128.specs.Series.{series_bytes, writable};
-ghost use Rattle.request.specs.Requests.{most_numbers, longest, value_count, all_numbers, request_of};
-ghost use Rattle.request.specs.Reading.{numbers_in, series_read, parsed};
-ghost use Rattle.request.specs.Writing.{written, buffer_after, staged, contents};
+ghost use Rattle.std.specs.Prelude.{cond, ◌≡◌, ◌≤◌, length, IfOk};
+ghost use Rattle.refusal.specs.Numbers.{none, bad_value};
+ghost use Rattle.refusal.specs.First.{first_of};
+ghost use Rattle.refusal.specs.Refusals.{answer_number};
+ghost use Rattle.leb128.specs.Numbers.{groups};
+ghost use Rattle.leb128.specs.Series.{series, series_bytes, writable};
+ghost use Rattle.request.specs.Requests.{most_numbers, fewest_numbers, value_count, numbers_of, request_of};
+ghost use Rattle.request.specs.Reading.{parsed};
+ghost use Rattle.request.specs.Writing.{written, buffer_after};
+ghost use Rattle.request.specs.Results.{read_answer, write_answer};
+
+use arrayvec::ArrayVec;
+use refusal::Refusal;
 
 // The most values of a request: one for each field of a channel.
 pub const VALUES: usize = ads1299_fields::CHANNEL_FIELDS as usize;
@@ -35,33 +40,16 @@ pub struct Request {
     pub values: [u32; VALUES],
 }
 
-// What reading answers: the request and the count of its bytes.
+// A request that was read, and the count of its bytes.
 #[derive(Clone, Copy)]
-pub struct Parsed {
-    pub refusal: u8,
+pub struct Found {
     pub request: Request,
     pub used: usize,
 }
 
-// What writing answers: the count of the bytes written.
-#[derive(Clone, Copy)]
-pub struct Written {
-    pub refusal: u8,
-    pub used: usize,
-}
-
-// Numbers as they are read, 0 past the last; on a refusal all are 0.
-#[derive(Clone, Copy)]
-struct Numbers {
-    refusal: u8,
-    numbers: [u32; MOST_NUMBERS],
-    used: usize,
-}
-
-// A request's bytes before they are copied, of which the first `used` count; the others are 0.
-#[derive(Clone, Copy)]
-struct Staged {
-    bytes: [u8; LONGEST],
+// Numbers that were read one after the other, and the count of their bytes.
+struct Series {
+    numbers: ArrayVec<u32, MOST_NUMBERS>,
     used: usize,
 }
 
@@ -76,178 +64,86 @@ pub fn count_values(field: u32) -> usize
     }
 }
 
-// The field, read ahead: it alone says how many numbers there are.
-fn read_field(bytes: &[u8]) -> leb128::Number
-    ensures { result ≡ decoded groups bytes.now }
-{
-    leb128::read(bytes)
-}
-
-// How many numbers are to be read, whatever the channel.
-fn count_numbers(bytes: &[u8]) -> usize
-    ensures { result ≡ numbers_in bytes.now }
-{
-    let field = read_field(bytes);
-    HEAD + count_values(field.value)
-}
-
 // So many numbers from the bytes' start on, or the refusal of the first that has one.
-fn read_series(bytes: &[u8], count: usize) -> Numbers
+fn read_series(bytes: &[u8], count: usize) -> Result<Series, Refusal>
     requires { count ≤ most_numbers }
-    ensures { result ≡ series_read count bytes.now }
+    ensures judged { answer_number result ≡ first_of (series groups count bytes.now).refusals }
+    ensures numbers { IfOk result (λ s. s.numbers.items ≡ (series groups count bytes.now).numbers) }
+    ensures used { IfOk result (λ s. s.used ≡ (series groups count bytes.now).used) }
 {
-    let mut numbers = [0; MOST_NUMBERS];
+    let mut numbers = ArrayVec::new();
     let mut used = 0;
-    let mut i = 0;
-    while i < count {
-        let number = leb128::read(&bytes[used..]);
-        if number.refusal != refusal::NONE {
-            return Numbers {
-                refusal: number.refusal,
-                numbers: [0; MOST_NUMBERS],
-                used: 0,
-            };
-        }
-        numbers[i] = number.value;
+    for _ in 0..count {
+        let number = leb128::read(&bytes[used..])?;
+        numbers.push(number.value);
         used += number.used;
-        i += 1;
     }
-    Numbers {
-        refusal: refusal::NONE,
-        numbers: numbers,
-        used: used,
-    }
+    Ok(Series { numbers, used })
 }
 
-// The request that numbers are.
-fn request_of(numbers: [u32; MOST_NUMBERS]) -> Request
-    ensures { result ≡ request_of numbers }
+// The request that numbers are: the values that its field does not use are 0.
+fn request_of(numbers: &[u32]) -> Request
+    requires { (fewest_numbers ≤ length numbers.now) × (length numbers.now ≤ most_numbers) }
+    ensures { result ≡ request_of numbers.now }
 {
+    let mut values = [0; VALUES];
+    values[..numbers.len() - HEAD].copy_from_slice(&numbers[HEAD..]);
     Request {
         field: numbers[0],
         channel: numbers[1],
-        values: [
-            numbers[2],
-            numbers[3],
-            numbers[4],
-            numbers[5],
-            numbers[6],
-            numbers[7],
-            numbers[8],
-            numbers[9],
-            numbers[10],
-        ],
+        values,
     }
 }
 
 // The request that the bytes start with. Bytes after it are not looked at.
-pub fn read(bytes: &[u8]) -> Parsed
-    ensures { result ≡ parsed bytes.now }
+pub fn read(bytes: &[u8]) -> Result<Found, Refusal>
+    ensures { read_answer result ≡ parsed bytes.now }
 {
-    let count = count_numbers(bytes);
-    let found = read_series(bytes, count);
-    let numbers = found.numbers;
-    Parsed {
-        refusal: found.refusal,
-        request: request_of(numbers),
-        used: found.used,
-    }
+    // The field is read ahead: it alone says how many numbers there are, whatever the channel.
+    let field = leb128::read(bytes)?.value;
+    let Series { numbers, used } = read_series(bytes, HEAD + count_values(field))?;
+    let request = request_of(&numbers);
+    Ok(Found { request, used })
 }
 
-// The numbers of a request, with the values that its field does not use.
-fn numbers_of(request: Request) -> [u32; MOST_NUMBERS]
-    ensures { result ≡ all_numbers request }
+// The numbers of a request, without the values that its field does not use.
+#[tactic(auto, unfolding(crate::specs::Requests::numbers_of))]
+fn numbers_of(request: Request) -> ArrayVec<u32, MOST_NUMBERS>
+    ensures { result.items ≡ numbers_of request }
 {
-    let values = request.values;
-    [
-        request.field,
-        request.channel,
-        values[0],
-        values[1],
-        values[2],
-        values[3],
-        values[4],
-        values[5],
-        values[6],
-        values[7],
-        values[8],
-    ]
+    let values = &request.values[..count_values(request.field)];
+    let mut numbers = ArrayVec::new();
+    numbers.push(request.field);
+    numbers.push(request.channel);
+    numbers.try_extend_from_slice(values).unwrap();
+    numbers
 }
 
-// Whether no number is too large to be written.
-fn is_writable(numbers: &[u32]) -> bool
-    ensures { result ≡ writable groups numbers.now }
+// The bytes of all numbers, for a copy; refused where one is too large to be written.
+fn stage(numbers: &[u32]) -> Result<ArrayVec<u8, LONGEST>, Refusal>
+    requires { length numbers.now ≤ most_numbers }
+    ensures judged { answer_number result ≡ cond (writable groups numbers.now) none bad_value }
+    ensures whole { IfOk result (λ staged. staged.items ≡ series_bytes groups numbers.now) }
 {
-    let mut i = 0;
-    while i < numbers.len() {
-        if numbers[i] <= leb128::LARGEST {
-            i += 1;
-        } else {
-            return false;
-        }
+    let mut staged = ArrayVec::new();
+    for number in numbers {
+        let bytes = leb128::encode(*number)?;
+        staged.try_extend_from_slice(&bytes).unwrap();
     }
-    true
-}
-
-// The bytes so far, and a number's after them.
-fn append(before: Staged, number: u32) -> Staged
-    requires { (before ≡ staged (contents before)) × ((before.used + groups ≤ longest) × (number ≤ largest groups)) }
-    ensures { result ≡ staged (contents before ++ encoded groups number) }
-{
-    let more = leb128::encode(number);
-    let at = before.used;
-    let mut all = before.bytes;
-    let new = more.bytes;
-    all[at..at + new.len()].copy_from_slice(&new);
-    Staged {
-        bytes: all,
-        used: at + more.used,
-    }
-}
-
-// The bytes of all numbers, for a copy.
-fn stage(numbers: &[u32]) -> Staged
-    requires { (length numbers.now ≤ most_numbers) × (writable groups numbers.now ≡ true) }
-    ensures { result ≡ staged (series_bytes groups numbers.now) }
-{
-    let mut all = Staged {
-        bytes: [0; LONGEST],
-        used: 0,
-    };
-    let mut i = 0;
-    while i < numbers.len() {
-        all = append(all, numbers[i]);
-        i += 1;
-    }
-    all
+    Ok(staged)
 }
 
 // Writes the request from the buffer's start on; bytes after it stay. The whole request is there before the first byte is copied,
 // so a refusal leaves the buffer as it was.
-pub fn write(request: Request, buffer: &mut [u8]) -> Written
-    ensures { (result ≡ written request buffer.old)
+pub fn write(request: Request, buffer: &mut [u8]) -> Result<usize, Refusal>
+    ensures { (write_answer result ≡ written request buffer.old)
         × (buffer.new ≡ buffer_after request buffer.old) }
 {
-    let numbers = numbers_of(request);
-    let count = HEAD + count_values(request.field);
-    if is_writable(&numbers[..count]) {
-        let staged = stage(&numbers[..count]);
-        let used = staged.used;
-        if buffer.len() < used {
-            return Written {
-                refusal: refusal::NO_ROOM,
-                used: 0,
-            };
-        }
-        let all = staged.bytes;
-        buffer[..used].copy_from_slice(&all[..used]);
-        return Written {
-            refusal: refusal::NONE,
-            used: used,
-        };
+    let staged = stage(&numbers_of(request))?;
+    let used = staged.len();
+    if buffer.len() < used {
+        return Err(Refusal::NoRoom);
     }
-    Written {
-        refusal: refusal::BAD_VALUE,
-        used: 0,
-    }
+    buffer[..used].copy_from_slice(&staged);
+    Ok(used)
 }

@@ -1,14 +1,49 @@
+use Rattle.std.proofs.lemmas.Result.{err_from_is_err_and}
+use borrow.Author.Tests.{eqb-false}
+use mathlib.Core.Path.{◌≡◌, sym, ap, ◌∙◌}
 use native.Mathlib.Omega.{arith}
-use mathlib.Core.Path.{ap, ◌∙◌}
-use Prim.Native.Nat.{ℕ}
-use Rattle.request.specs.Reading.{series_read}
-use Rattle.request.proofs.Reading.{numbers_between, answers}
+use Rattle.refusal.proofs.Laws.{refused_lem}
+use Rattle.refusal.specs.Numbers.{none}
+use Rattle.refusal.specs.Refusals.{number_of}
+use Rattle.leb128.specs.Answers.{Number}
+use Rattle.request.specs.Reading.{numbers_read, read_refusal, refused}
+use Rattle.request.proofs.Reading.{numbers_between, numbers_many, counting, field_refused, series_refused, series_found}
 use Rattle.request.proofs.read.Goals as goal
 
-pub read_series-found-requires : goal.read_series-found-requires
-read_series-found-requires c = omega (arith, (numbers_between c.args.bytes.now).1)
+pub returns-in_err-field : goal.returns-in_err-field
+returns-in_err-field c =
+    let p = err_from_is_err_and c.from_residual.result c.from_residual.ensures.1 in
+    let e = ap (λ (n : Number). n.refusal) c.in_err-field.ensures in
+    let h = eqb-false _ _ (refused_lem c.in_err-field.field-0.0) in
+    rw (p.1, p.2) (ap refused e ∙ sym (field_refused c.args.bytes.now (λ z. h (e ∙ z))))
+
+-- the count of the numbers is the definition's
+pub returns-in_err-numbers : goal.returns-in_err-numbers
+unfolding read_refusal numbers_read
+returns-in_err-numbers c =
+    let bytes = c.args.bytes.now in
+    let p = err_from_is_err_and c.from_residual-in_err-numbers.result c.from_residual-in_err-numbers.ensures.1 in
+    let n = counting bytes _ _ _ c.in_ok-field.ensures c.count_values.ensures in
+    let e : number_of c.in_err-numbers.field-0.0 ≡ read_refusal bytes = rw n at c.in_err-numbers.ensures.judged in
+    let h = eqb-false _ _ (refused_lem c.in_err-numbers.field-0.0) in
+    rw (p.1, p.2) (ap refused e ∙ sym (series_refused bytes (λ z. h (e ∙ z))))
+
+pub request_of-request-requires : goal.request_of-request-requires
+unfolding numbers_read
+request_of-request-requires c =
+    let bytes = c.args.bytes.now in
+    let n = counting bytes _ _ _ c.in_ok-field.ensures c.count_values.ensures in
+    let e : c.deref.result.now ≡ (numbers_read bytes).numbers = c.deref.ensures.0 ∙ (rw n at c.in_ok-numbers.ensures.numbers) in
+    let b = numbers_between bytes in
+    let m = numbers_many bytes in
+    rw e (omega (arith, b.0, m), omega (arith, b.1, m))
 
 pub returns : goal.returns
-returns c = let bytes = c.args.bytes.now in
-    (λ i. record { refusal = c.read_series-found.result.refusal; request = c.request_of.ensures i; used = c.read_series-found.result.used })
-    ∙ answers bytes c.read_series-found.result (c.read_series-found.ensures ∙ ap (λ (count : ℕ). series_read count bytes) c.count_numbers-count.ensures)
+unfolding read_refusal numbers_read
+returns c =
+    let bytes = c.args.bytes.now in
+    let n = counting bytes _ _ _ c.in_ok-field.ensures c.count_values.ensures in
+    let e : c.deref.result.now ≡ (numbers_read bytes).numbers = c.deref.ensures.0 ∙ (rw n at c.in_ok-numbers.ensures.numbers) in
+    let u : c.in_ok-numbers.field-0.used ≡ (numbers_read bytes).used = rw n at c.in_ok-numbers.ensures.used in
+    let j : none ≡ read_refusal bytes = rw n at c.in_ok-numbers.ensures.judged in
+    rw (c.request_of-request.ensures, e, u) (sym (series_found bytes (sym j)))

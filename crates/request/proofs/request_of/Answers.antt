@@ -1,14 +1,13 @@
-use Rattle.std.proofs.Common.{rules}
-use mathlib.Core.Path.{◌≡◌, ◌∙◌}
+use borrow.Author.Rules.{part_to_end}
 use native.Mathlib.Omega.{arith}
-use lib.ListN.{length, drop, length-drop}
-use Rattle.request.specs.Requests.{most_values, most_numbers, request_of}
-use Rattle.request.proofs.Padding.{padded_whole}
-use Rattle.request.proofs.Reading.{elements_are}
+use Prim.Native.Nat.{◌-◌}
+use lib.ListN.{length, length-drop}
+use Rattle.leb128.specs.Encoding.{padded}
+use Rattle.request.specs.Requests.{most_values, request_of}
+use Rattle.request.proofs.Padding.{drop_zeros}
 use Rattle.request.proofs.request_of.Goals as goal
 
 pub returns : goal.returns
-unfolding request_of
-returns c = let l = c.args.numbers in
-    let n : length l ≡ most_numbers = search rules in
-    rw (elements_are most_values 2 l (omega arith), padded_whole most_values (drop 2 l) (length-drop 2 l ∙ omega arith))
+unfolding request_of padded
+returns c = let l = c.args.numbers.now in
+    rw (c.copy_from_slice.ensures.after, part_to_end l 2, length-drop 2 l, drop_zeros (length l - 2) most_values (omega (arith, c.requires.1)))

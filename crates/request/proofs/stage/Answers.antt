@@ -1,16 +1,24 @@
 -- The loop keeps that the bytes so far, and those of the numbers left, are all.
-use native.Mathlib.Omega.{arith}
-use Rattle.request.proofs.Writing.{begins, asks, goes_on, ends}
+use Rattle.std.proofs.lemmas.Result.{err_from_is_err_and}
+use Rattle.refusal.proofs.Laws.{refused_lem}
+use Rattle.leb128.proofs.Results.{encoded_ok, encoded_err}
+use Rattle.request.proofs.Writing.{stops, goes_on, ends}
 use Rattle.request.proofs.stage.Goals as goal
 
-pub loop-i-init : goal.loop-i-init
-loop-i-init c = (omega arith, begins c.args.numbers.now c.requires.0 c.requires.1)
+pub returns-in_err-bytes-clause-judged : goal.returns-in_err-bytes-clause-judged
+returns-in_err-bytes-clause-judged c =
+    let p = err_from_is_err_and c.from_residual.result c.from_residual.ensures.1 in
+    let e = encoded_err _ _ (refused_lem c.in_err-bytes.field-0.0) c.in_err-bytes.ensures in
+    rw (p.1, p.2) (rw (e.1, stops c.loop-number.invariant c.loop-number-test.true e.0))
 
-pub append-all-requires : goal.append-all-requires
-append-all-requires c = asks c.args.numbers.now c.loop-i.all c.loop-i.i c.loop-i.invariant.1 c.loop-i-test.true
+pub loop-number-preserved : goal.loop-number-preserved
+loop-number-preserved c =
+    let e = encoded_ok _ _ c.in_ok-bytes.ensures in
+    let all = rw c.unwrap.ensures at c.try_extend_from_slice.ensures.ok in
+    rw (all, c.deref.ensures.0, e.1) (goes_on c.loop-number.invariant c.loop-number-test.true e.0)
 
-pub loop-i-preserved : goal.loop-i-preserved
-loop-i-preserved c = (omega arith, goes_on c.args.numbers.now c.loop-i.all c.loop-i.i c.loop-i.invariant.1 c.loop-i-test.true c.append-all.result c.append-all.ensures)
+pub returns-clause-judged : goal.returns-clause-judged
+returns-clause-judged c = rw (ends c.loop-number.invariant c.loop-number-test.false).0
 
-pub returns : goal.returns
-returns c = ends c.args.numbers.now c.loop-i.all c.loop-i.i c.loop-i.invariant.1 c.loop-i-test.false
+pub returns-clause-whole : goal.returns-clause-whole
+returns-clause-whole c = (ends c.loop-number.invariant c.loop-number-test.false).1
