@@ -13,6 +13,7 @@ fn power(k: u8) -> u32
 }
 
 // The value of the field; what lies above the byte reads as 0.
+#[tactic(auto, using(crate::proofs::Fields::field_none, crate::proofs::Fields::field_whole), unfolding(crate::specs::Fields::field))]
 pub fn read(byte: u8, bit: u8, width: u8) -> u8
     ensures { result ≡ field byte bit width }
 {
@@ -27,30 +28,23 @@ pub fn read(byte: u8, bit: u8, width: u8) -> u8
 }
 
 // Whether the bit at a place is 1; a place above the byte has none.
+#[tactic(auto, using(crate::proofs::Fields::field_none), unfolding(crate::specs::Fields::bit))]
 pub fn is_set(byte: u8, place: u32) -> bool
     ensures { result ≡ bit byte place }
 {
-    if place < 8 {
-        read(byte, place as u8, 1) == 1
-    } else {
-        false
-    }
+    place < 8 && read(byte, place as u8, 1) == 1
 }
 
 // Whether the field lies within a byte, and the value within the field.
+#[tactic(auto, unfolding(crate::specs::Fields::insertable))]
 fn fits(bit: u8, width: u8, value: u8) -> bool
     ensures { result ≡ insertable bit width value }
 {
-    if 8 < width {
-        return false;
-    }
-    if 8 - width < bit {
-        return false;
-    }
-    (value as u32) < power(width)
+    width <= 8 && bit <= 8 - width && (value as u32) < power(width)
 }
 
 // The byte with the value in the field; the byte as it stands where that does not fit.
+#[tactic(auto, using(crate::proofs::Fields::fitting, crate::proofs::Fields::bounds), unfolding(crate::specs::Fields::inserted))]
 pub fn insert(byte: u8, bit: u8, width: u8, value: u8) -> u8
     ensures { result ≡ cond (insertable bit width value) (inserted byte bit width value) byte }
 {
@@ -64,6 +58,7 @@ pub fn insert(byte: u8, bit: u8, width: u8, value: u8) -> u8
 }
 
 // The mask's bits of the new byte, and the other bits of the old.
+#[tactic(auto, unfolding(crate::specs::Fields::masked))]
 pub fn write_masked(old: u8, mask: u8, new: u8) -> u8
     ensures { result ≡ masked old mask new }
 {

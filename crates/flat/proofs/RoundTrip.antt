@@ -17,8 +17,8 @@ use Rattle.ads1299.specs.State.{state}
 use Rattle.flat.specs.declared.FlatConverter.{FlatConverter}
 use Rattle.flat.specs.Codes.{on}
 use Rattle.flat.specs.Flat.{flag_code, direction_code, output_code, place_of, phase_code, transfer_of, flat}
-use Rattle.flat.specs.States.{is_flag, are_flags, is_output, is_phase, is_state, direction_of, output_of, phase_of, state_of}
-use Rattle.flat.specs.Claims.{RoundTrip}
+use Rattle.flat.specs.States.{is_flag, are_flags, is_output, is_phase, is_state, direction_of, output_of, phase_of, state_of, state_in}
+use Rattle.flat.specs.Claims.{RoundTrip, ComesBack}
 
 pub flag_stands : (b : Bool) → is_flag (flag_code b) ≡ true
 flag_stands true = refl
@@ -136,3 +136,7 @@ returns_flat_lem f e =
 
 pub round_trip : RoundTrip
 round_trip = record { stands = stands; returns = returns; returns_flat = returns_flat_lem }
+
+pub comes_back : ComesBack
+unfolding state_in
+comes_back s = simp (stands s, returns s)

@@ -9,7 +9,7 @@ use lib.Dec.{eqb}
 use lib.ListN.{length, drop, get_or}
 use Rattle.refusal.specs.Numbers.{none, truncated}
 use Rattle.refusal.specs.First.{accepted}
-use Rattle.leb128.specs.declared.Number.{Number}
+use Rattle.leb128.specs.Answers.{Number}
 use Rattle.leb128.specs.Numbers.{base, found, refused}
 use Rattle.leb128.specs.Encoding.{encoded}
 use Rattle.leb128.specs.Decoding.{joined, decoded}

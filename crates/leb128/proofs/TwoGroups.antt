@@ -1,12 +1,14 @@
--- Numbers of at most two groups, case by case: the definition reads group by group, over any number of groups; the code looks at both bytes at once.
-use mathlib.Core.List.{List}
+-- Numbers of at most two groups, case by case: the definitions go group by group, over any number of groups; the code takes both at once.
+use mathlib.Core.List.{List, [], ◌∷◌}
 use mathlib.Core.Path.{◌≡◌, ◌∙◌}
 use native.Mathlib.Omega.{arith}
-use Prim.Native.Nat.{ℕ, ◌+◌, ◌-◌, ◌*◌, ◌≤◌, ◌<◌}
+use borrow.Author.Tests.{lt-ltb, le-ltb, le-leb, lt-leb}
+use Prim.Native.Nat.{ℕ, ◌+◌, ◌-◌, ◌*◌, ◌/◌, ◌%◌, ◌≤◌, ◌<◌}
 use lib.ListN.{length, drop, get_or, length-drop}
 use lib.Seq.{get_or-drop}
-use Rattle.refusal.specs.Numbers.{truncated, malformed}
-use Rattle.leb128.specs.Numbers.{base, groups, found, refused}
+use Rattle.refusal.specs.Numbers.{none, truncated, malformed, bad_value}
+use Rattle.leb128.specs.Numbers.{base, groups, largest, found, refused}
+use Rattle.leb128.specs.Encoding.{encoded, padded, encoded_array}
 use Rattle.leb128.specs.Decoding.{decoded}
 use Rattle.leb128.proofs.Groups.{decoded_none, decoded_last, decoded_more, join}
 
@@ -39,3 +41,17 @@ module _ (l : List ℕ) (some : 0 < length l) (follows : base ≤ get_or l 0 0) 
       let e = get_or-drop 1 l 0 0 in
       let n = length-drop 1 l in
       decoded_more 1 l some follows ∙ rw (decoded_more 0 (drop 1 l) (omega arith) (omega arith))
+
+-- a number as it is written, by how large it is
+pub too_large : (n : ℕ) → largest groups < n → encoded_array n ≡ record { refusal = bad_value; bytes = padded groups []; used = 0 }
+unfolding encoded_array
+too_large n h = rw (lt-leb n (largest groups) h)
+
+pub in_one : (n : ℕ) → n < base → encoded_array n ≡ record { refusal = none; bytes = padded groups (n ∷ []); used = 1 }
+unfolding encoded_array encoded
+in_one n h = rw (le-leb n (largest groups) (omega arith), lt-ltb n base h)
+
+pub in_two : (n : ℕ) → base ≤ n → n ≤ largest groups
+    → encoded_array n ≡ record { refusal = none; bytes = padded groups ((base + n % base) ∷ (n / base) ∷ []); used = 2 }
+unfolding encoded_array encoded
+in_two n b h = rw (le-leb n (largest groups) h, le-ltb n base b, lt-ltb (n / base) base (omega arith))

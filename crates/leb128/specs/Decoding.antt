@@ -2,7 +2,7 @@
 use Rattle.std.specs.Prelude.{cond, List, [], ◌∷◌, ℕ, zero, suc, ◌+◌, ◌-◌, ◌*◌, ltb, eqb}
 use Rattle.refusal.specs.Numbers.{truncated, malformed}
 use Rattle.refusal.specs.First.{accepted}
-use Rattle.leb128.specs.declared.Number.{Number}
+use Rattle.leb128.specs.Answers.{Number}
 use Rattle.leb128.specs.Numbers.{base, found, refused}
 
 -- gives a low group joined with the number of the groups after it, which must not be 0: the low group alone would be shorter

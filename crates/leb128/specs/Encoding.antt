@@ -1,7 +1,7 @@
 -- A number as bytes: the lowest group first, the top bit set where another group follows, no group more than needed.
 use Rattle.std.specs.Prelude.{cond, List, [], ◌∷◌, ◌++◌, ℕ, zero, suc, ◌+◌, ◌-◌, ◌/◌, ◌%◌, ltb, leb, length, replicate}
 use Rattle.refusal.specs.Numbers.{none, bad_value}
-use Rattle.leb128.specs.declared.Encoded.{Encoded}
+use Rattle.leb128.specs.Answers.{Encoded}
 use Rattle.leb128.specs.Numbers.{base, groups, largest}
 
 -- gives the bytes of a number, in at most k groups

@@ -3,7 +3,7 @@ use Rattle.std.specs.Prelude.{cond, List, [], ◌∷◌, ◌++◌, ℕ, drop}
 use Rattle.cases.specs.Figures.{Hold}
 use Rattle.refusal.specs.First.{accepted}
 use Rattle.refusal.specs.Numbers.{truncated, malformed}
-use Rattle.leb128.specs.declared.Number.{Number}
+use Rattle.leb128.specs.Answers.{Number}
 use Rattle.leb128.specs.Numbers.{groups, found, refused}
 use Rattle.leb128.specs.Encoding.{encoded}
 use Rattle.leb128.specs.Decoding.{decoded}

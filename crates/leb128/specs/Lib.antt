@@ -1,6 +1,8 @@
+pub mod Answers
 pub mod Numbers
 pub mod Encoding
 pub mod Decoding
+pub mod Results
 pub mod Series
 pub mod RoundTrip
 pub mod SeriesRoundTrip

@@ -1,7 +1,7 @@
 -- Numbers in groups of seven bits, and what reading one answers.
 use Rattle.std.specs.Prelude.{ℕ, ◌-◌, ◌^◌}
 use Rattle.refusal.specs.Numbers.{none}
-use Rattle.leb128.specs.declared.Number.{Number}
+use Rattle.leb128.specs.Answers.{Number}
 
 -- how many values a group has; a group that another one follows stands in its byte with this added
 abbrev pub base : ℕ

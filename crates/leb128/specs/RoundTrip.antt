@@ -2,7 +2,7 @@
 use Rattle.std.specs.Prelude.{true, List, ◌++◌, ◌≡◌, ℕ, ◌≤◌, ◌<◌, length, take}
 use Rattle.std.proofs.Math.Pow.{are_bytes}
 use Rattle.refusal.specs.Numbers.{none}
-use Rattle.leb128.specs.declared.Number.{Number}
+use Rattle.leb128.specs.Answers.{Number}
 use Rattle.leb128.specs.Numbers.{largest, found}
 use Rattle.leb128.specs.Encoding.{encoded}
 use Rattle.leb128.specs.Decoding.{decoded}

@@ -2,9 +2,13 @@
 #![tactic(auto)]
 
 ghost use Rattle.std.specs.Prelude.{◌≡◌};
-ghost use Rattle.leb128.specs.Numbers.{groups, refused};
+ghost use Rattle.leb128.specs.Numbers.{groups};
 ghost use Rattle.leb128.specs.Encoding.{encoded_array};
 ghost use Rattle.leb128.specs.Decoding.{decoded};
+ghost use Rattle.leb128.specs.Results.{read_answer, encode_answer};
+
+use arrayvec::ArrayVec;
+use refusal::Refusal;
 
 // How many values a group has. A group that another one follows has this added, its byte's top bit.
 const BASE: u32 = 128;
@@ -15,87 +19,49 @@ pub const GROUPS: usize = 2;
 // The largest number of two groups.
 pub const LARGEST: u32 = BASE * BASE - 1;
 
-// What reading answers: the number and the count of its bytes.
-#[derive(Clone, Copy)]
-pub struct Number {
-    pub refusal: u8,
+// A number that was read, and the count of its bytes.
+#[derive(Clone, Copy, Debug, PartialEq, Eq)]
+pub struct Decoded {
     pub value: u32,
     pub used: usize,
 }
 
-// A number's bytes, of which the first `used` count; the others are 0.
-#[derive(Clone, Copy)]
-pub struct Encoded {
-    pub refusal: u8,
-    pub bytes: [u8; GROUPS],
-    pub used: usize,
-}
-
-fn refuse(number: u8) -> Number
-    ensures { result ≡ refused number }
-{
-    Number {
-        refusal: number,
-        value: 0,
-        used: 0,
-    }
-}
-
 // The number that the bytes start with. Bytes after it are not looked at.
 #[tactic(auto, using(crate::proofs::TwoGroups::nothing, crate::proofs::TwoGroups::alone, crate::proofs::TwoGroups::missing, crate::proofs::TwoGroups::zero, crate::proofs::TwoGroups::both, crate::proofs::TwoGroups::third))]
-pub fn read(bytes: &[u8]) -> Number
-    ensures { result ≡ decoded groups bytes.now }
+pub fn read(bytes: &[u8]) -> Result<Decoded, Refusal>
+    ensures { read_answer result ≡ decoded groups bytes.now }
 {
-    if bytes.len() == 0 {
-        return refuse(refusal::TRUNCATED);
-    }
-    let low = bytes[0] as u32;
+    let low = *bytes.first().ok_or(Refusal::Truncated)? as u32;
     if low < BASE {
-        return Number {
-            refusal: refusal::NONE,
+        return Ok(Decoded {
             value: low,
             used: 1,
-        };
+        });
     }
-    if bytes.len() == 1 {
-        return refuse(refusal::TRUNCATED);
+    let high = *bytes.get(1).ok_or(Refusal::Truncated)? as u32;
+    if high == 0 || BASE <= high {
+        return Err(Refusal::Malformed);
     }
-    let high = bytes[1] as u32;
-    if high < BASE {
-        if high == 0 {
-            return refuse(refusal::MALFORMED);
-        }
-        let group = low - BASE;
-        return Number {
-            refusal: refusal::NONE,
-            value: group + BASE * high,
-            used: GROUPS,
-        };
-    }
-    refuse(refusal::MALFORMED)
+    Ok(Decoded {
+        value: low - BASE + BASE * high,
+        used: GROUPS,
+    })
 }
 
-// The bytes of a number; refusal 7 above the largest.
-pub fn encode(value: u32) -> Encoded
-    ensures { result ≡ encoded_array value }
+// The bytes of a number; refused above the largest.
+#[tactic(auto, using(crate::proofs::TwoGroups::too_large, crate::proofs::TwoGroups::in_one, crate::proofs::TwoGroups::in_two))]
+pub fn encode(value: u32) -> Result<ArrayVec<u8, GROUPS>, Refusal>
+    ensures { encode_answer result ≡ encoded_array value }
 {
     if LARGEST < value {
-        return Encoded {
-            refusal: refusal::BAD_VALUE,
-            bytes: [0; GROUPS],
-            used: 0,
-        };
+        return Err(Refusal::BadValue);
     }
+    let mut bytes = ArrayVec::new();
     if value < BASE {
-        return Encoded {
-            refusal: refusal::NONE,
-            bytes: [value as u8, 0],
-            used: 1,
-        };
+        bytes.push(value as u8);
+    } else {
+        bytes.push((BASE + value % BASE) as u8);
+        bytes.push((value / BASE) as u8);
     }
-    Encoded {
-        refusal: refusal::NONE,
-        bytes: [(BASE + value % BASE) as u8, (value / BASE) as u8],
-        used: GROUPS,
-    }
+    Ok(bytes)
 }

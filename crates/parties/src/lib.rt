@@ -11,12 +11,14 @@ pub const ADMIN: u8 = 0; // document 01: the keeper
 pub const LARGEST: u8 = 8;
 
 // Whether there is a party of this number.
+#[tactic(auto, unfolding(crate::specs::Parties::known_party))]
 pub fn is_known(party: u32) -> bool
     ensures { result ≡ known_party party }
 {
     party <= LARGEST as u32
 }
 
+#[tactic(auto, unfolding(crate::specs::Parties::is_admin))]
 pub fn is_admin(party: u32) -> bool
     ensures { result ≡ is_admin party }
 {
@@ -27,29 +29,20 @@ pub fn is_admin(party: u32) -> bool
 pub fn are_known(owners: &[u8]) -> bool
     ensures { result ≡ known_owners owners.now }
 {
-    let mut i: usize = 0;
-    while i < owners.len() {
-        if LARGEST < owners[i] {
-            return false;
-        }
-        i += 1;
-    }
-    true
+    owners.iter().all(|&owner| owner <= LARGEST)
 }
 
 // The owner of a channel. Channel 0 counts as 1, and a channel with no entry as the administrator's.
+#[tactic(auto, unfolding(crate::specs::Owners::owner_of))]
 fn owner(owners: &[u8], channel: u32) -> u8
     ensures { result ≡ owner_of owners.now channel }
 {
-    let at = if channel == 0 {
-        0
-    } else {
-        channel as usize - 1
-    };
-    if at < owners.len() { owners[at] } else { ADMIN }
+    let at = channel.saturating_sub(1) as usize;
+    owners.get(at).copied().unwrap_or(ADMIN)
 }
 
 // Whether a party owns a channel.
+#[tactic(auto, unfolding(crate::specs::Owners::owns))]
 pub fn is_owner(owners: &[u8], party: u32, channel: u32) -> bool
     ensures { result ≡ owns owners.now party channel }
 {

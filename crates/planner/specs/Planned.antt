@@ -6,7 +6,7 @@ use Rattle.request.specs.declared.Request.{Request}
 use Rattle.ads1299.specs.declared.Converter.{Converter}
 use Rattle.ads1299.specs.State.{with_registers, with_output}
 use Rattle.ads1299_settings.specs.Registers.{field_of}
-use Rattle.planner.specs.declared.Planned.{Planned}
+use Rattle.planner.specs.Answers.{Planned}
 use Rattle.planner.specs.Submission.{Submission}
 use Rattle.planner.specs.Plan.{registers_after, plan_of, plan_length}
 use Rattle.planner.specs.Refusals.{judged}

@@ -10,7 +10,7 @@ use lib.Seq.{take-append_seam, drop-append_seam, drop_at, drop-drop}
 use Rattle.refusal.specs.Numbers.{none}
 use Rattle.splice.specs.Splice.{spliced}
 use Rattle.splice.proofs.Splice.{copied_to}
-use Rattle.leb128.specs.declared.Encoded.{Encoded}
+use Rattle.leb128.specs.Answers.{Encoded}
 use Rattle.leb128.specs.Numbers.{groups, largest}
 use Rattle.leb128.specs.Encoding.{encoded, padded, encoded_array}
 use Rattle.leb128.proofs.RoundTrip.{round_trip}

@@ -14,7 +14,7 @@ use Rattle.refusal.specs.Numbers.{none}
 use Rattle.refusal.specs.First.{first_of, accepted}
 use Rattle.ads1299_fields.specs.Names.{whole_channel}
 use Rattle.cases.proofs.Cases.{split}
-use Rattle.leb128.specs.declared.Number.{Number}
+use Rattle.leb128.specs.Answers.{Number}
 use Rattle.leb128.specs.Numbers.{groups}
 use Rattle.leb128.specs.Encoding.{padded}
 use Rattle.leb128.specs.Decoding.{decoded}

@@ -13,7 +13,7 @@ use Rattle.refusal.specs.Numbers.{none}
 use Rattle.refusal.specs.First.{first_of, accepted}
 use Rattle.cases.proofs.Cases.{split, and_both}
 use Rattle.splice.specs.Splice.{spliced}
-use Rattle.leb128.specs.declared.Number.{Number}
+use Rattle.leb128.specs.Answers.{Number}
 use Rattle.leb128.specs.Numbers.{groups, largest, base}
 use Rattle.leb128.specs.Encoding.{encoded, padded}
 use Rattle.leb128.specs.Decoding.{decoded}

@@ -8,9 +8,5 @@ ghost use Rattle.splice.specs.Splice.{room_at};
 pub fn count_room(buffer: &[u8], at: usize) -> usize
     ensures { result ≡ room_at buffer.now at }
 {
-    if buffer.len() < at {
-        0
-    } else {
-        buffer.len() - at
-    }
+    buffer.len().saturating_sub(at)
 }

@@ -5,7 +5,7 @@ use mathlib.Core.Path.{◌≡◌, sym, ap, ◌∙◌}
 use native.Mathlib.Omega.{arith}
 use Prim.Native.Nat.{ℕ, ◌-◌}
 use lib.ListN.{length, take, drop}
-use Rattle.leb128.specs.declared.Number.{Number}
+use Rattle.leb128.specs.Answers.{Number}
 use Rattle.leb128.specs.Numbers.{groups}
 use Rattle.leb128.specs.Decoding.{decoded}
 use Rattle.request.proofs.Reading.{begins, stops, goes_on, within, ends}

@@ -1,0 +1,37 @@
+-- What an answer of writing says of the number and its bytes.
+use mathlib.Core.Bool.{false}
+use mathlib.Core.List.{List, []}
+use mathlib.Core.Path.{◌≡◌, sym, ap, ◌∙◌}
+use Prim.Native.Nat.{ℕ, ◌≤◌, ◌<◌}
+use native.Mathlib.Omega.{arith}
+use borrow.Author.Tests.{leb-true, leb-false, eqb-false}
+use lib.Dec.{leb}
+use lib.ListN.{length, take}
+use lib.Seq.{take-append_seam}
+use Rattle.refusal.specs.Numbers.{none, bad_value}
+use Rattle.refusal.specs.First.{accepted}
+use Rattle.cases.proofs.Cases.{split}
+use Rattle.leb128.specs.Answers.{Encoded}
+use Rattle.leb128.specs.Numbers.{groups, largest}
+use Rattle.leb128.specs.Encoding.{encoded, padded, encoded_array}
+
+-- the number is not too large, and the bytes are its encoding
+pub encoded_ok : (n : ℕ) (items : List ℕ) → record { refusal = none; bytes = padded groups items; used = length items } ≡ encoded_array n
+    → (n ≤ largest groups) × (items ≡ encoded groups n)
+unfolding encoded_array padded
+encoded_ok n items e =
+    split (leb n (largest groups))
+    (λ a.
+    let f = rw a at e in
+    let used = ap (λ (x : Encoded). x.used) f in
+    let bytes = ap (λ (x : Encoded). take x.used x.bytes) f in
+    (leb-true _ _ a, sym (take-append_seam items _) ∙ bytes ∙ take-append_seam (encoded groups n) _))
+    (λ a. let f = ap (λ (x : Encoded). x.refusal) (rw a at e) in absurd (omega (arith, f)))
+
+-- the number is too large
+pub encoded_err : (n number : ℕ) → accepted number ≡ false → record { refusal = number; bytes = padded groups []; used = 0 } ≡ encoded_array n
+    → (largest groups < n) × (number ≡ bad_value)
+unfolding encoded_array
+encoded_err n number r e =
+    split (leb n (largest groups)) (λ a. absurd (eqb-false number none r (ap (λ (x : Encoded). x.refusal) (rw a at e))))
+    (λ a. (leb-false _ _ a, ap (λ (x : Encoded). x.refusal) (rw a at e)))
