@@ -2,21 +2,7 @@
 #![tactic(auto)]
 
 ghost use Rattle.std.specs.Prelude.{◌≡◌};
-ghost use Rattle.ads1299_settings.specs.Registers.{with_field, field_byte};
-
-// The field's register as it stands with the value in the field; 0 where nothing is named or the value does not fit.
-fn new_byte(registers: [u8; ads1299_registers::COUNT], field: u32, channel: u32, value: u32) -> u8
-    ensures { result ≡ field_byte registers field channel value }
-{
-    if ads1299_fields::is_settable(field, channel, value) {
-        let place = ads1299_fields::locate(field, channel);
-        let register = place.register as usize;
-        let old = registers[register];
-        bits::insert(old, place.bit, place.width, value as u8)
-    } else {
-        0
-    }
-}
+ghost use Rattle.ads1299_settings.specs.Registers.{with_field};
 
 // The registers with the value in the field; as they stand where nothing is named or the value does not fit.
 pub fn write(
@@ -27,13 +13,12 @@ pub fn write(
 ) -> [u8; ads1299_registers::COUNT]
     ensures { result ≡ with_field registers field channel value }
 {
+    let mut written = registers;
     if ads1299_fields::is_settable(field, channel, value) {
         let place = ads1299_fields::locate(field, channel);
         let register = place.register as usize;
-        let mut written = registers;
-        written[register] = new_byte(registers, field, channel, value);
-        written
-    } else {
-        registers
+        let old = registers[register];
+        written[register] = bits::insert(old, place.bit, place.width, value as u8);
     }
+    written
 }
