@@ -1,4 +1,5 @@
 -- Zero bytes lead back to waiting, since a count of those left to go falls with each; and a select rise of an idle converter changes nothing.
+use Rattle.std.specs.Prelude.{Option}
 use Prim.Native.Nat.{ℕ, zero, suc, ◌+◌, ◌≤◌}
 use mathlib.Core.Path.{◌≡◌, refl, sym, ◌∙◌, ap}
 use mathlib.Core.Bool.{Bool, true, ◌&&◌}
@@ -12,7 +13,6 @@ use Rattle.ads1299.specs.Answers.{Moved}
 use Rattle.ads1299_serial.specs.declared.Transfer.{Transfer}
 use Rattle.ads1299_serial.specs.declared.Direction.{Direction}
 use Rattle.ads1299_serial.specs.declared.Direction.TheVariants.{Read, Write}
-use Rattle.ads1299_serial.specs.declared.Output.{Output}
 use Rattle.ads1299_serial.specs.declared.Phase.{Phase}
 use Rattle.ads1299_serial.specs.declared.Phase.TheVariants.{Waiting, Held, Counting}
 use Rattle.ads1299_commands.specs.Commands.{register_command, decoded, acts}
@@ -81,5 +81,5 @@ reaches_waiting s v =
 pub idle_deselect : IdleDeselect
 unfolding deselected emptied
 idle_deselect s v w e =
-    let with : Output → Phase → Moved = λ o p. moved none (with_phase (with_output s o) p) in
-    rw v (ap (λ (o : Output). with o Waiting) (sym e) ∙ ap (with s.output) (sym w))
+    let with : Option ℕ → Phase → Moved = λ o p. moved none (with_phase (with_output s o) p) in
+    rw v (ap (λ (o : Option ℕ). with o Waiting) (sym e) ∙ ap (with s.output) (sym w))

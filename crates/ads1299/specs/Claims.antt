@@ -1,8 +1,7 @@
 -- What is claimed of the converter beyond its functions' contracts.
-use Rattle.std.specs.Prelude.{ℕ, ◌+◌, ◌≤◌, true, List, ◌≡◌, ℤ, replicate}
+use Rattle.std.specs.Prelude.{ℕ, ◌+◌, ◌≤◌, true, List, ◌≡◌, ℤ, replicate, None}
 use Rattle.refusal.specs.Numbers.{none}
 use Rattle.ads1299.specs.declared.Converter.{Converter}
-use Rattle.ads1299_serial.specs.declared.Output.TheVariants.{Empty}
 use Rattle.ads1299_serial.specs.declared.Phase.TheVariants.{Waiting}
 use Rattle.ads1299_serial.specs.Transfers.{most_registers}
 use Rattle.ads1299.specs.State.{moved}
@@ -39,4 +38,4 @@ ReachesWaiting = (s : Converter) → valid s ≡ true → LedToWaiting s
 
 -- A select rise changes nothing where the converter waits with nothing pending.
 abbrev pub IdleDeselect : Type 0
-IdleDeselect = (s : Converter) → valid s ≡ true → s.phase ≡ Waiting → s.output ≡ Empty → deselected s ≡ moved none s
+IdleDeselect = (s : Converter) → valid s ≡ true → s.phase ≡ Waiting → s.output ≡ None → deselected s ≡ moved none s

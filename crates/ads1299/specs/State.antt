@@ -1,12 +1,11 @@
 -- The state with one part changed and all else as it is, and the answer that is a number and a state.
-use Rattle.std.specs.Prelude.{ℕ, Bool, List}
+use Rattle.std.specs.Prelude.{ℕ, Bool, List, Option}
 use Rattle.ads1299.specs.declared.Converter.{Converter}
 use Rattle.ads1299.specs.Answers.{Moved}
-use Rattle.ads1299_serial.specs.declared.Output.{Output}
 use Rattle.ads1299_serial.specs.declared.Phase.{Phase}
 
 -- gives a state from all its parts
-abbrev pub state : List ℕ → List ℕ → List ℕ → Output → Bool → Bool → Bool → List ℕ → Phase → Converter
+abbrev pub state : List ℕ → List ℕ → List ℕ → Option ℕ → Bool → Bool → Bool → List ℕ → Phase → Converter
 state registers owners latest output continuous standby converting shifting phase =
     record {
       registers = registers;
@@ -29,7 +28,7 @@ with_owners s x = state s.registers x s.latest s.output s.continuous s.standby s
 abbrev pub with_latest : Converter → List ℕ → Converter
 with_latest s x = state s.registers s.owners x s.output s.continuous s.standby s.converting s.shifting s.phase
 
-abbrev pub with_output : Converter → Output → Converter
+abbrev pub with_output : Converter → Option ℕ → Converter
 with_output s x = state s.registers s.owners s.latest x s.continuous s.standby s.converting s.shifting s.phase
 
 abbrev pub with_continuous : Converter → Bool → Converter

@@ -1,15 +1,14 @@
 -- Refusal 13: whether a converter can be in the state that it is said to be in.
-use Rattle.std.specs.Prelude.{Bool, not, ◌&&◌, get_or}
+use Rattle.std.specs.Prelude.{ℕ, Bool, not, ◌&&◌, get_or, Option}
 use Rattle.ads1299_registers.specs.Addresses.{ID}
 use Rattle.ads1299_serial.specs.Transfers.{valid_phase}
 use Rattle.ads1299_serial.specs.Output.{is_empty, valid_place}
-use Rattle.ads1299_serial.specs.declared.Output.{Output}
 use Rattle.ads1299.specs.declared.Converter.{Converter}
 use Rattle.parties.specs.Owners.{known_owners}
 use Rattle.ads1299.specs.PowerUp.{valid_id}
 
 -- a command may stand half given: in command mode, awake, with nothing pending
-abbrev pub interruptible : Bool → Bool → Output → Bool
+abbrev pub interruptible : Bool → Bool → Option ℕ → Bool
 interruptible continuous standby output = not continuous && not standby && is_empty output
 
 -- what refusal 13 asks of the converter itself

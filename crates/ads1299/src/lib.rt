@@ -7,7 +7,7 @@ mod sample;
 mod step;
 mod validity;
 
-use ads1299_serial::{Output, Phase};
+use ads1299_serial::Phase;
 use refusal::Refusal;
 
 // The order of the fields keeps each array at a multiple of 16 bytes.
@@ -16,7 +16,7 @@ pub struct Converter {
     pub registers: [u8; ads1299_registers::COUNT],
     pub owners: [u8; ads1299_registers::CHANNELS],
     pub latest: [u8; ads1299_frame::LENGTH],
-    pub output: Output,
+    pub output: Option<u8>,
     pub continuous: bool,
     pub standby: bool,
     pub converting: bool,

@@ -4,7 +4,7 @@ ghost use Rattle.ads1299.specs.PowerUp.{valid_id, restored, powered_up};
 ghost use Rattle.ads1299.specs.Answers.{power_up_answer};
 
 use crate::{Converter, Startup};
-use ads1299_serial::{Output, Phase};
+use ads1299_serial::Phase;
 use refusal::Refusal;
 
 impl Converter {
@@ -85,7 +85,7 @@ impl Converter {
             registers,
             owners,
             latest: [0; ads1299_frame::LENGTH],
-            output: Output::Empty,
+            output: None,
             continuous: true,
             standby: false,
             converting: false,

@@ -12,17 +12,13 @@ impl Converter {
     fn is_running(self) -> bool
         ensures { result ≡ running self }
     {
-        if self.standby { false } else { self.converting }
+        self.converting && !self.standby
     }
 
     fn is_complete(codes: &[i32]) -> bool
         ensures { result ≡ complete codes.now }
     {
-        if codes.len() == ads1299_registers::CHANNELS {
-            ads1299_codes::all_in_range(codes)
-        } else {
-            false
-        }
+        codes.len() == ads1299_registers::CHANNELS && ads1299_codes::all_in_range(codes)
     }
 
     // The tests in the order of document 01.
@@ -56,12 +52,10 @@ impl Converter {
     fn take(self, codes: &[i32], p: u8, n: u8) -> Converter
         ensures { result ≡ taken self codes.now p n }
     {
-        let before = self.registers;
-        let registers = Self::with_status(before, p, n);
-        let latest = ads1299_frame::build(registers, codes, p, n);
+        let registers = Self::with_status(self.registers, p, n);
         let next = Converter {
             registers,
-            latest,
+            latest: ads1299_frame::build(registers, codes, p, n),
             ..self
         };
         if next.continuous { next.load() } else { next }

@@ -9,20 +9,16 @@ ghost use Rattle.ads1299.specs.Answers.{step_answer, moved_answer};
 
 use crate::{Converter, Exchange};
 use ads1299_commands::Command;
-use ads1299_serial::{Direction, Output, Phase, Transfer};
+use ads1299_serial::{Direction, Phase, Transfer};
 use refusal::Refusal;
 
 impl Converter {
     // What stands at an address: 0 above the last register.
+    #[tactic(auto, unfolding(crate::specs::Registers::register_at))]
     fn register(registers: [u8; ads1299_registers::COUNT], address: u8) -> u8
         ensures { result ≡ register_at registers address }
     {
-        let at = address as usize;
-        if at < ads1299_registers::COUNT {
-            registers[at]
-        } else {
-            0
-        }
+        registers.get(address as usize).copied().unwrap_or(0)
     }
 
     // The registers after a write through the mask: dropped above the last register.
@@ -36,13 +32,12 @@ impl Converter {
         let mut next = registers;
         let to = address as usize;
         if to < ads1299_registers::COUNT {
-            let mask = Self::MASK;
-            next[to] = bits::write_masked(next[to], mask[to], byte);
+            next[to] = bits::write_masked(next[to], Self::MASK[to], byte);
         }
         next
     }
 
-    fn with_output(self, output: Output) -> Converter
+    fn with_output(self, output: Option<u8>) -> Converter
         ensures { result ≡ with_output self output }
     {
         Converter { output, ..self }
@@ -58,22 +53,19 @@ impl Converter {
     fn ignore(self) -> Converter
         ensures { result ≡ ignored self }
     {
-        let output = self.output;
-        let registers = self.registers;
-        let again = bits::is_set(registers[ads1299_registers::CONFIG1], 6);
-        self.with_output(ads1299_serial::advance(output, again))
+        let again = bits::is_set(self.registers[ads1299_registers::CONFIG1], 6);
+        self.with_output(ads1299_serial::advance(self.output, again))
     }
 
     // The first byte of a register read or write: the command is held, and nothing is transferred yet.
     fn hold(self, direction: Direction, address: u8) -> Converter
         ensures { result ≡ held self direction address }
     {
-        let phase = Phase::Held(Transfer {
+        self.with_phase(Phase::Held(Transfer {
             direction,
             address,
             remaining: 0,
-        });
-        self.with_phase(phase)
+        }))
     }
 
     fn with_standby(mut self, standby: bool) -> Converter
@@ -100,9 +92,7 @@ impl Converter {
     fn reset(self) -> Converter
         ensures { result ≡ effect Command.Reset self }
     {
-        let registers = self.registers;
-        let owners = self.owners;
-        Self::restore(registers[ads1299_registers::ID], owners)
+        Self::restore(self.registers[ads1299_registers::ID], self.owners)
     }
 
     // The latest frame goes out, from its first byte.
@@ -112,7 +102,7 @@ impl Converter {
         let shifting = self.latest;
         Converter {
             shifting,
-            output: Output::At(0),
+            output: Some(0),
             ..self
         }
     }
@@ -140,7 +130,7 @@ impl Converter {
         ensures { result ≡ commanded self command }
     {
         if ads1299_commands::does_act(command, self.standby, self.continuous, self.converting) {
-            self.with_output(Output::Empty).perform(command)
+            self.with_output(None).perform(command)
         } else {
             self.ignore()
         }
@@ -149,46 +139,37 @@ impl Converter {
     fn count(self, transfer: Transfer, byte: u8) -> Converter
         ensures { result ≡ counted self transfer byte }
     {
-        let before = self.registers;
-        let direction = transfer.direction;
-        let registers = match direction {
-            Direction::Read => before,
-            Direction::Write => Self::write(before, transfer.address, byte),
+        let registers = match transfer.direction {
+            Direction::Read => self.registers,
+            Direction::Write => Self::write(self.registers, transfer.address, byte),
         };
-        let phase = ads1299_serial::remain(transfer);
         Converter {
             registers,
-            phase,
+            phase: ads1299_serial::remain(transfer),
             ..self
         }
     }
 
     // The byte that goes out.
+    #[tactic(auto, unfolding(crate::specs::Step::outgoing))]
     fn outgoing_byte(self) -> u8
         ensures { result ≡ outgoing self }
     {
-        let phase = self.phase;
-        let output = self.output;
-        let shifting = self.shifting;
-        match phase {
-            Phase::Waiting => ads1299_serial::pending_byte(output, shifting),
-            Phase::Held(_) => ads1299_serial::pending_byte(output, shifting),
-            Phase::Counting(transfer) => {
-                let registers = self.registers;
-                let direction = transfer.direction;
-                match direction {
-                    Direction::Read => Self::register(registers, transfer.address),
-                    Direction::Write => ads1299_serial::pending_byte(output, shifting),
-                }
+        match self.phase {
+            Phase::Waiting | Phase::Held(_) => {
+                ads1299_serial::pending_byte(self.output, self.shifting)
             }
+            Phase::Counting(transfer) => match transfer.direction {
+                Direction::Read => Self::register(self.registers, transfer.address),
+                Direction::Write => ads1299_serial::pending_byte(self.output, self.shifting),
+            },
         }
     }
 
     fn follow(self, byte: u8) -> Converter
         ensures { result ≡ followed self byte }
     {
-        let phase = self.phase;
-        match phase {
+        match self.phase {
             Phase::Waiting => self.command(ads1299_commands::decode(byte)),
             Phase::Held(transfer) => self.with_phase(ads1299_serial::begin(transfer, byte)),
             Phase::Counting(transfer) => self.count(transfer, byte),
@@ -215,6 +196,6 @@ impl Converter {
         if !self.is_valid() {
             return Err(Refusal::InvalidState);
         }
-        Ok(self.with_output(Output::Empty).with_phase(Phase::Waiting))
+        Ok(self.with_output(None).with_phase(Phase::Waiting))
     }
 }

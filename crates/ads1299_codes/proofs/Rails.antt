@@ -5,9 +5,6 @@ use mathlib.Core.Bool.{true, false, not, false≢true}
 use mathlib.Core.List.{[], ◌∷◌}
 use borrow.Author.Tests.{eqb-true, not-true}
 use lib.IntN.{ℤ, pos, negsuc, suc_ℤ, pred_ℤ}
-use mir.Syntax.{w32}
-use mir.Val.{to_z, of_z, SFits}
-use mir.Facts.{to_z-of_z}
 use Rattle.cases.proofs.Cases.{split, and_both}
 use Rattle.ads1299_codes.specs.Codes.{lowest, highest, in_range, word_of, code_of}
 use Rattle.ads1299_codes.specs.Words.{word, word_bytes}
@@ -37,10 +34,6 @@ highest_there = refl
 pub elsewhere : (z : ℤ) → (z ≡ lowest → ⊥) → (z ≡ highest → ⊥) → rail_of z ≡ Neither
 unfolding stands_for rail_of
 elsewhere z low high = simp (ne_eq_z z lowest low, ne_eq_z z highest high)
-
--- an integer that fits 32 bits is that of its word: 32-bit arithmetic compares words
-pub from_word : (z : ℤ) (w : ℕ) → SFits w32 z → of_z w32 z ≡ w → z ≡ to_z w32 w
-from_word z w fits e = sym (to_z-of_z fits) ∙ ap (to_z w32) e
 
 stands_for_it : (z : ℤ) → stands_for (rail_of z) z ≡ true
 unfolding stands_for rail_of

@@ -20,15 +20,24 @@ const WORD_COUNT: u32 = 0x1000000;
 const SIGN_WORD: u32 = 0x800000;
 
 // Which end of the range a code sits at, if at any.
-#[derive(Clone, Copy)]
+#[derive(Clone, Copy, Debug, PartialEq, Eq)]
 pub enum Rail {
-    Neither,
-    Lowest,
-    Highest,
+    Neither = 0,
+    Lowest = 1,
+    Highest = 2,
+}
+
+// The number that stands for a rail in other languages.
+impl From<Rail> for u8 {
+    ghost from_gives = { λ rail number. number ≡ rail_number rail };
+
+    fn from(rail: Rail) -> u8 {
+        rail as u8
+    }
 }
 
 // What three bytes decode to: the code and its rail.
-#[derive(Clone, Copy)]
+#[derive(Clone, Copy, Debug, PartialEq, Eq)]
 pub struct Decoded {
     pub code: i32,
     pub rail: Rail,
@@ -38,26 +47,14 @@ pub struct Decoded {
 fn in_range(code: i32) -> bool
     ensures { result ≡ in_range code }
 {
-    if LOWEST <= code {
-        code <= HIGHEST
-    } else {
-        false
-    }
+    (LOWEST..=HIGHEST).contains(&code)
 }
 
 // Whether every number of a list is a code.
 pub fn all_in_range(codes: &[i32]) -> bool
     ensures { result ≡ all_in_range codes.now }
 {
-    let mut i = 0;
-    while i < codes.len() {
-        if in_range(codes[i]) {
-            i += 1;
-        } else {
-            return false;
-        }
-    }
-    true
+    codes.iter().all(|code| in_range(*code))
 }
 
 // The code of three bytes, high byte first. There is no branch: adding SIGN_WORD within 24 bits takes the words from it on round to 0, and taking it off again leaves them below zero.
@@ -69,19 +66,19 @@ fn code(high: u8, middle: u8, low: u8) -> i32
 }
 
 // The rail of a code.
+#[tactic(auto, using(crate::proofs::Rails::lowest_there, crate::proofs::Rails::highest_there, crate::proofs::Rails::elsewhere))]
 fn classify(code: i32) -> Rail
     ensures { result ≡ rail_of code }
 {
-    if code == LOWEST {
-        return Rail::Lowest;
+    match code {
+        LOWEST => Rail::Lowest,
+        HIGHEST => Rail::Highest,
+        _ => Rail::Neither,
     }
-    if code == HIGHEST {
-        return Rail::Highest;
-    }
-    Rail::Neither
 }
 
 // Decodes three bytes, high byte first.
+#[tactic(auto, unfolding(crate::specs::Rails::decoded))]
 pub fn decode(high: u8, middle: u8, low: u8) -> Decoded
     ensures { result ≡ decoded (code_of (word high middle low)) }
 {
@@ -92,15 +89,11 @@ pub fn decode(high: u8, middle: u8, low: u8) -> Decoded
     }
 }
 
-// The number that stands for a rail in other languages.
+// A rail's number by the name that docs/DECISIONS.md and docs/RULES.md give it.
 pub fn rail_number(rail: Rail) -> u8
     ensures { result ≡ rail_number rail }
 {
-    match rail {
-        Rail::Neither => 0,
-        Rail::Lowest => 1,
-        Rail::Highest => 2,
-    }
+    u8::from(rail)
 }
 
 // The low 24 bits of an integer in two's complement. `-1 - code` has the bits of `code` flipped.
@@ -115,6 +108,7 @@ fn word_of(code: i32) -> u32
 }
 
 // The three bytes of a code, high byte first. A code out of range is cut to its low 24 bits.
+#[tactic(auto, unfolding(crate::specs::Words::word_bytes))]
 pub fn code_bytes(code: i32) -> [u8; WORD_LENGTH]
     ensures { result ≡ word_bytes (word_of code) }
 {

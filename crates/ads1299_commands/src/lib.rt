@@ -2,7 +2,7 @@
 #![tactic(auto)]
 
 ghost use Rattle.std.specs.Prelude.{◌≡◌};
-ghost use Rattle.ads1299_commands.specs.Commands.{register_command, decoded, is_wakeup, acts_awake, acts};
+ghost use Rattle.ads1299_commands.specs.Commands.{register_command, decoded, acts_awake, acts};
 
 // By their data sheet names. RREG and WREG carry the first address in their low five bits.
 pub const WAKEUP: u8 = 0x02;
@@ -26,7 +26,7 @@ pub const RREG: u8 = 0x20;
 pub const WREG: u8 = 0x40;
 
 // What a byte means while the converter waits.
-#[derive(Clone, Copy)]
+#[derive(Clone, Copy, Debug, PartialEq, Eq)]
 pub enum Command {
     Wakeup,
     Standby,
@@ -41,19 +41,20 @@ pub enum Command {
     Unlisted,
 }
 
+#[tactic(auto, unfolding(crate::specs::Commands::register_command))]
 fn decode_register_command(byte: u8) -> Command
     ensures { result ≡ register_command byte }
 {
-    if byte - byte % 32 == RREG {
-        Command::Rreg(byte % 32)
-    } else if byte - byte % 32 == WREG {
-        Command::Wreg(byte % 32)
-    } else {
-        Command::Unlisted
+    let address = byte % 32;
+    match byte - address {
+        RREG => Command::Rreg(address),
+        WREG => Command::Wreg(address),
+        _ => Command::Unlisted,
     }
 }
 
 // What a byte means while the converter waits.
+#[tactic(auto, unfolding(crate::specs::Commands::decoded))]
 pub fn decode(byte: u8) -> Command
     ensures { result ≡ decoded byte }
 {
@@ -70,48 +71,26 @@ pub fn decode(byte: u8) -> Command
     }
 }
 
-fn is_wakeup(command: Command) -> bool
-    ensures { result ≡ is_wakeup command }
-{
-    match command {
-        Command::Wakeup => true,
-        Command::Standby => false,
-        Command::Reset => false,
-        Command::Start => false,
-        Command::Stop => false,
-        Command::Rdatac => false,
-        Command::Sdatac => false,
-        Command::Rdata => false,
-        Command::Rreg(_) => false,
-        Command::Wreg(_) => false,
-        Command::Unlisted => false,
-    }
-}
-
 fn acts_awake(command: Command, continuous: bool, converting: bool) -> bool
     ensures { result ≡ acts_awake command continuous converting }
 {
     match command {
-        Command::Wakeup => false,
-        Command::Standby => true,
-        Command::Reset => true,
+        Command::Standby | Command::Reset => true,
         Command::Start => !converting,
         Command::Stop => converting,
-        Command::Rdatac => !continuous,
         Command::Sdatac => continuous,
-        Command::Rdata => !continuous,
-        Command::Rreg(_) => !continuous,
-        Command::Wreg(_) => !continuous,
-        Command::Unlisted => false,
+        Command::Rdatac | Command::Rdata | Command::Rreg(_) | Command::Wreg(_) => !continuous,
+        Command::Wakeup | Command::Unlisted => false,
     }
 }
 
 // Whether a command acts, or is ignored.
+#[tactic(auto, unfolding(crate::specs::Commands::acts))]
 pub fn does_act(command: Command, standby: bool, continuous: bool, converting: bool) -> bool
     ensures { result ≡ acts command standby continuous converting }
 {
     if standby {
-        is_wakeup(command)
+        matches!(command, Command::Wakeup)
     } else {
         acts_awake(command, continuous, converting)
     }

@@ -1,5 +1,6 @@
 -- Where a field lies in the registers.
 use Rattle.std.specs.Prelude.{Bool, cond, not, ◌||◌, ℕ, ◌+◌, ◌*◌, ◌-◌, leb, eqb}
+use Rattle.ads1299_fields.specs.declared.Entry.{Entry}
 use Rattle.ads1299_fields.specs.declared.Place.{Place}
 use Rattle.ads1299_fields.specs.Table.{Row, row_of}
 use Rattle.ads1299_fields.specs.Names.{named}
@@ -11,6 +12,15 @@ place_of r steps =
       register = r.register + r.register_step * steps;
       bit = r.bit + r.bit_step * steps;
       width = r.width;
+    }
+
+-- gives the same of a row as the code holds it
+abbrev pub place_in : Entry → ℕ → Place
+place_in e steps =
+    record {
+      register = e.register + e.register_step * steps;
+      bit = e.bit + e.bit_step * steps;
+      width = e.width;
     }
 
 -- no bits of no register

@@ -1,6 +1,7 @@
 -- The fields that have a place in the registers, one row each (document 01, "Fields a slip can name").
-use Rattle.std.specs.Prelude.{List, [], ◌∷◌, ℕ, get_or}
+use Rattle.std.specs.Prelude.{List, [], ◌∷◌, ℕ, Option, None, Some, cond, eqb, get_or}
 use Rattle.ads1299_registers.specs.Addresses.{CONFIG1, CONFIG2, CONFIG3, LOFF, CH1SET, BIAS_SENSP, BIAS_SENSN, LOFF_SENSP, LOFF_SENSN, LOFF_FLIP, MISC1, CONFIG4}
+use Rattle.ads1299_fields.specs.Names.{is_field}
 use Rattle.ads1299_fields.specs.declared.Entry.{Entry}
 
 -- a field: its register and lowest bit, of channel 1 if it is a channel's; how far each moves from one channel to the next; its
@@ -63,4 +64,21 @@ row_of f = get_or table f no_row
 
 -- gives a row as the code holds it
 abbrev pub entry_of : Row → Entry
-entry_of r = record { 0 = r.register; 1 = r.register_step; 2 = r.bit; 3 = r.bit_step; 4 = r.width; 5 = r.refused }
+entry_of r =
+    record {
+      register = r.register;
+      register_step = r.register_step;
+      bit = r.bit;
+      bit_step = r.bit_step;
+      width = r.width;
+      refused = cond (eqb r.refused none_refused) None (Some r.refused);
+    }
+
+-- gives a row with this value refused
+abbrev pub refusing : Entry → ℕ → Entry
+refusing e value =
+    record { register = e.register; register_step = e.register_step; bit = e.bit; bit_step = e.bit_step; width = e.width; refused = Some value }
+
+-- gives the field's row as the code holds it; none where the number is no field's
+abbrev pub entry_at : ℕ → Option Entry
+entry_at f = cond (is_field f) (Some (entry_of (row_of f))) None

@@ -4,10 +4,12 @@
 
 mod map;
 
-ghost use Rattle.std.specs.Prelude.{◌≡◌, ◌-◌};
-ghost use Rattle.ads1299_fields.specs.Names.{is_field, known_field, channel_field, takes_channel, named};
-ghost use Rattle.ads1299_fields.specs.Places.{place};
-ghost use Rattle.ads1299_fields.specs.Values.{fits, legal, settable};
+ghost use Rattle.std.specs.Prelude.{◌≡◌, ◌+◌, ◌*◌, ◌<◌, ◌≤◌, ◌^◌, ltb};
+ghost use Rattle.ads1299_registers.specs.Addresses.{register_count};
+ghost use Rattle.ads1299_fields.specs.Names.{is_field, known_field, channel_field, takes_channel};
+ghost use Rattle.ads1299_fields.specs.Places.{place, place_in};
+ghost use Rattle.ads1299_fields.specs.Table.{refusing};
+ghost use Rattle.ads1299_fields.specs.Values.{legal, settable};
 
 use map::look_up;
 
@@ -21,54 +23,86 @@ pub const CHANNEL_FIELDS: u32 = 9;
 pub const WHOLE_CHANNEL: u32 = 30;
 
 // A row of the map: where a field lies, and which value of it is refused.
-#[derive(Clone, Copy)]
-struct Entry(
-    usize, // register, of channel 1 if the field is a channel's
-    usize, // how far that moves from one channel to the next
-    usize, // lowest bit, of channel 1 as well
-    usize, // how far that moves
-    u8, // width
-    u32, // the value that is refused
-);
+#[derive(Clone, Copy, Debug, PartialEq, Eq)]
+struct Entry {
+    // Of channel 1 if the field is a channel's.
+    register: usize,
+    // How far that moves from one channel to the next.
+    register_step: usize,
+    // The lowest bit, of channel 1 as well.
+    bit: usize,
+    bit_step: usize,
+    width: u8,
+    // Of the values that fit the width.
+    refused: Option<u32>,
+}
+
+impl Entry {
+    fn refusing(self, value: u32) -> Entry
+        ensures { result ≡ refusing self value }
+    {
+        Entry {
+            refused: Some(value),
+            ..self
+        }
+    }
+
+    // The field's place, that many channels after channel 1.
+    fn place(self, steps: usize) -> Place
+        requires { (self.register + self.register_step * steps < register_count)
+            × (self.width + (self.bit + self.bit_step * steps) ≤ 8) }
+        ensures { result ≡ place_in self steps }
+    {
+        Place {
+            register: (self.register + self.register_step * steps) as u8,
+            bit: (self.bit + self.bit_step * steps) as u8,
+            width: self.width,
+        }
+    }
+
+    // Whether the value fits the width.
+    fn fits(self, value: u32) -> bool
+        requires { self.width ≤ 8 }
+        ensures { result ≡ ltb value (2 ^ self.width) }
+    {
+        value < 1u32 << self.width
+    }
+}
 
 // A field of a register, by its lowest bit and its width.
-#[derive(Clone, Copy)]
+#[derive(Clone, Copy, Debug, PartialEq, Eq)]
 pub struct Place {
     pub register: u8,
     pub bit: u8,
     pub width: u8,
 }
 
+// No bits of no register.
+const NOWHERE: Place = Place {
+    register: 0,
+    bit: 0,
+    width: 0,
+};
+
 // Whether the number is a field's.
 pub fn is_field(field: u32) -> bool
     ensures { result ≡ is_field field }
 {
-    if 1 <= field { field <= FIELDS } else { false }
+    (1..=FIELDS).contains(&field)
 }
 
 // Whether a request can ask for the field: for one, or for a whole channel.
 pub fn is_known_field(field: u32) -> bool
     ensures { result ≡ known_field field }
 {
-    if is_field(field) {
-        true
-    } else {
-        field == WHOLE_CHANNEL
-    }
+    is_field(field) || field == WHOLE_CHANNEL
 }
 
 // Whether the number is a channel field's, or that of all of them.
 pub fn is_channel_field(field: u32) -> bool
     ensures { result ≡ channel_field field }
 {
-    if field == WHOLE_CHANNEL {
-        return true;
-    }
-    if 1 <= field {
-        field <= CHANNEL_FIELDS
-    } else {
-        false
-    }
+    field == WHOLE_CHANNEL || (1..=CHANNEL_FIELDS).contains(&field)
 }
 
 // Whether the field is to be named with this channel.
@@ -82,76 +116,37 @@ pub fn takes_channel(field: u32, channel: u32) -> bool
     }
 }
 
-// Whether the field and the channel name bits of a register.
-fn is_named(field: u32, channel: u32) -> bool
-    ensures { result ≡ named field channel }
-{
-    if is_field(field) {
-        takes_channel(field, channel)
-    } else {
-        false
-    }
-}
-
-// How many channels after channel 1; none for a shared field, which has channel 0.
-fn count_steps(channel: u32) -> usize
-    ensures { result ≡ channel - 1 }
-{
-    if 0 < channel { channel as usize - 1 } else { 0 }
-}
-
 // Where the field of the channel lies; all 0 where these name nothing.
+// No Option: the contract is `place`, which has a place for every two numbers, and what could not fail still can't.
 pub fn locate(field: u32, channel: u32) -> Place
     ensures { result ≡ place field channel }
 {
-    if is_named(field, channel) {
-        let Entry(register, register_step, bit, bit_step, width, _) = look_up(field);
-        let steps = count_steps(channel);
-        Place {
-            register: (register + register_step * steps) as u8,
-            bit: (bit + bit_step * steps) as u8,
-            width,
-        }
+    let Some(entry) = look_up(field) else {
+        return NOWHERE;
+    };
+    if takes_channel(field, channel) {
+        entry.place(channel.saturating_sub(1) as usize)
     } else {
-        Place {
-            register: 0,
-            bit: 0,
-            width: 0,
-        }
+        NOWHERE
     }
-}
-
-// Whether the value fits the field's width.
-fn fits(field: u32, value: u32) -> bool
-    ensures { result ≡ fits field value }
-{
-    let Entry(_, _, _, _, width, _) = look_up(field);
-    value < 1u32 << width
 }
 
 // Whether a request may set the field to this value; false where the number is no field's.
 pub fn is_legal(field: u32, value: u32) -> bool
     ensures { result ≡ legal field value }
 {
-    if is_field(field) {
-        if fits(field, value) {
-            let Entry(_, _, _, _, _, refused) = look_up(field);
-            value != refused
-        } else {
-            false
-        }
-    } else {
-        false
-    }
+    let Some(entry) = look_up(field) else {
+        return false;
+    };
+    entry.fits(value) && entry.refused != Some(value)
 }
 
 // Whether the registers can hold the value in the field of the channel, legal or not.
 pub fn is_settable(field: u32, channel: u32, value: u32) -> bool
     ensures { result ≡ settable field channel value }
 {
-    if is_named(field, channel) {
-        fits(field, value)
-    } else {
-        false
-    }
+    let Some(entry) = look_up(field) else {
+        return false;
+    };
+    takes_channel(field, channel) && entry.fits(value)
 }

@@ -1,56 +1,79 @@
 // The register map: where each of the 26 fields lies in the registers, and which value of it is refused, a row each.
 ghost use Rattle.std.specs.Prelude.{◌≡◌};
-ghost use Rattle.ads1299_fields.specs.Table.{row_of, entry_of};
+ghost use Rattle.ads1299_fields.specs.Table.{row, none_refused, entry_of, entry_at};
 
-use crate::{Entry, FIELDS};
+use crate::Entry;
 use ads1299_registers::{
     BIAS_SENSN, BIAS_SENSP, CH1SET, CONFIG1, CONFIG2, CONFIG3, CONFIG4, LOFF, LOFF_FLIP,
     LOFF_SENSN, LOFF_SENSP, MISC1,
 };
 
-// Stands where every value of the width is legal: no width holds this number.
-const NONE_REFUSED: u32 = 256;
-
-const NO_FIELD: Entry = Entry(0, 0, 0, 0, 0, 0);
-
-// By field number; 0 is no field.
-const TABLE: [Entry; FIELDS as usize + 1] = [
-    NO_FIELD,
-    Entry(CH1SET, 1, 7, 0, 1, NONE_REFUSED), // 1 PDn
-    Entry(CH1SET, 1, 4, 0, 3, 7), // 2 GAINn
-    Entry(CH1SET, 1, 3, 0, 1, NONE_REFUSED), // 3 SRB2
-    Entry(CH1SET, 1, 0, 0, 3, NONE_REFUSED), // 4 MUXn
-    Entry(BIAS_SENSP, 0, 0, 1, 1, NONE_REFUSED), // 5 BIASPn
-    Entry(BIAS_SENSN, 0, 0, 1, 1, NONE_REFUSED), // 6 BIASNn
-    Entry(LOFF_SENSP, 0, 0, 1, 1, NONE_REFUSED), // 7 LOFFPn
-    Entry(LOFF_SENSN, 0, 0, 1, 1, NONE_REFUSED), // 8 LOFFMn
-    Entry(LOFF_FLIP, 0, 0, 1, 1, NONE_REFUSED), // 9 LOFF_FLIPn
-    Entry(CONFIG1, 0, 6, 0, 1, NONE_REFUSED), // 10 DAISY_EN
-    Entry(CONFIG1, 0, 5, 0, 1, NONE_REFUSED), // 11 CLK_EN
-    Entry(CONFIG1, 0, 0, 0, 3, 7), // 12 DR
-    Entry(CONFIG2, 0, 4, 0, 1, NONE_REFUSED), // 13 INT_CAL
-    Entry(CONFIG2, 0, 2, 0, 1, NONE_REFUSED), // 14 CAL_AMP
-    Entry(CONFIG2, 0, 0, 0, 2, 2), // 15 CAL_FREQ
-    Entry(CONFIG3, 0, 7, 0, 1, NONE_REFUSED), // 16 PD_REFBUF
-    Entry(CONFIG3, 0, 4, 0, 1, NONE_REFUSED), // 17 BIAS_MEAS
-    Entry(CONFIG3, 0, 3, 0, 1, NONE_REFUSED), // 18 BIASREF_INT
-    Entry(CONFIG3, 0, 2, 0, 1, NONE_REFUSED), // 19 PD_BIAS
-    Entry(CONFIG3, 0, 1, 0, 1, NONE_REFUSED), // 20 BIAS_LOFF_SENS
-    Entry(LOFF, 0, 5, 0, 3, NONE_REFUSED), // 21 COMP_TH
-    Entry(LOFF, 0, 2, 0, 2, NONE_REFUSED), // 22 ILEAD_OFF
-    Entry(LOFF, 0, 0, 0, 2, NONE_REFUSED), // 23 FLEAD_OFF
-    Entry(MISC1, 0, 5, 0, 1, NONE_REFUSED), // 24 SRB1
-    Entry(CONFIG4, 0, 3, 0, 1, NONE_REFUSED), // 25 SINGLE_SHOT
-    Entry(CONFIG4, 0, 1, 0, 1, NONE_REFUSED), // 26 PD_LOFF_COMP
-];
-
-// The field's row; all 0 where the number is no field's.
-pub(crate) fn look_up(field: u32) -> Entry
-    ensures { result ≡ entry_of (row_of field) }
+// A field that all channels share.
+fn shared(register: usize, bit: usize, width: u8) -> Entry
+    ensures { result ≡ entry_of (row register 0 bit 0 width none_refused) }
 {
-    if field <= FIELDS {
-        TABLE[field as usize]
-    } else {
-        NO_FIELD
+    Entry {
+        register,
+        register_step: 0,
+        bit,
+        bit_step: 0,
+        width,
+        refused: None,
+    }
+}
+
+// A channel's field in a register of its own, given where channel 1 has it.
+fn in_own_register(register: usize, bit: usize, width: u8) -> Entry
+    ensures { result ≡ entry_of (row register 1 bit 0 width none_refused) }
+{
+    Entry {
+        register_step: 1,
+        ..shared(register, bit, width)
+    }
+}
+
+// A channel's field in a register that has a bit for each channel.
+fn in_own_bit(register: usize) -> Entry
+    ensures { result ≡ entry_of (row register 0 0 1 1 none_refused) }
+{
+    Entry {
+        bit_step: 1,
+        ..shared(register, 0, 1)
+    }
+}
+
+// The field's row; none where the number is no field's.
+#[tactic(auto, unfolding(crate::specs::Table::table, crate::specs::Table::row_of))]
+pub(crate) fn look_up(field: u32) -> Option<Entry>
+    ensures { result ≡ entry_at field }
+{
+    match field {
+        1 => Some(in_own_register(CH1SET, 7, 1)), // PDn
+        2 => Some(in_own_register(CH1SET, 4, 3).refusing(7)), // GAINn
+        3 => Some(in_own_register(CH1SET, 3, 1)), // SRB2
+        4 => Some(in_own_register(CH1SET, 0, 3)), // MUXn
+        5 => Some(in_own_bit(BIAS_SENSP)), // BIASPn
+        6 => Some(in_own_bit(BIAS_SENSN)), // BIASNn
+        7 => Some(in_own_bit(LOFF_SENSP)), // LOFFPn
+        8 => Some(in_own_bit(LOFF_SENSN)), // LOFFMn
+        9 => Some(in_own_bit(LOFF_FLIP)), // LOFF_FLIPn
+        10 => Some(shared(CONFIG1, 6, 1)), // DAISY_EN
+        11 => Some(shared(CONFIG1, 5, 1)), // CLK_EN
+        12 => Some(shared(CONFIG1, 0, 3).refusing(7)), // DR
+        13 => Some(shared(CONFIG2, 4, 1)), // INT_CAL
+        14 => Some(shared(CONFIG2, 2, 1)), // CAL_AMP
+        15 => Some(shared(CONFIG2, 0, 2).refusing(2)), // CAL_FREQ
+        16 => Some(shared(CONFIG3, 7, 1)), // PD_REFBUF
+        17 => Some(shared(CONFIG3, 4, 1)), // BIAS_MEAS
+        18 => Some(shared(CONFIG3, 3, 1)), // BIASREF_INT
+        19 => Some(shared(CONFIG3, 2, 1)), // PD_BIAS
+        20 => Some(shared(CONFIG3, 1, 1)), // BIAS_LOFF_SENS
+        21 => Some(shared(LOFF, 5, 3)), // COMP_TH
+        22 => Some(shared(LOFF, 2, 2)), // ILEAD_OFF
+        23 => Some(shared(LOFF, 0, 2)), // FLEAD_OFF
+        24 => Some(shared(MISC1, 5, 1)), // SRB1
+        25 => Some(shared(CONFIG4, 3, 1)), // SINGLE_SHOT
+        26 => Some(shared(CONFIG4, 1, 1)), // PD_LOFF_COMP
+        _ => None,
     }
 }

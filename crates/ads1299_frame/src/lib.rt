@@ -1,21 +1,24 @@
 // The frame of a sample: nine words of 24 bits, each three bytes (document 01, "Samples and frames").
 #![tactic(auto)]
 
-ghost use Rattle.std.specs.Prelude.{◌≡◌, ◌*◌, ◌<◌, ◌≤◌};
-ghost use Rattle.splice.specs.Splice.{spliced};
+ghost use Rattle.std.specs.Prelude.{◌≡◌, ◌<◌, ◌≤◌};
 ghost use Rattle.ads1299_registers.specs.Addresses.{channel_count};
-ghost use Rattle.ads1299_codes.specs.Words.{word_length, word_bytes};
+ghost use Rattle.ads1299_codes.specs.Words.{word_bytes};
 ghost use Rattle.ads1299_frame.specs.Frame.{shown, status_word, frame_word, frame_of};
 
 use ads1299_codes::WORD_LENGTH;
 
-// The bytes of a frame: a word for the status and one for each channel.
-pub const LENGTH: usize = 27;
+// A word for the status and one for each channel.
+const WORDS: usize = 1 + ads1299_registers::CHANNELS;
+
+// The bytes of a frame.
+pub const LENGTH: usize = WORD_LENGTH * WORDS;
 
 // The first four bits of a frame.
 pub const MARK: u8 = 0b1100;
 
 // What a channel shows: 0 where its power-down bit, bit 7 of CHnSET, is 1.
+#[tactic(auto, unfolding(crate::specs::Frame::shown, crate::specs::Frame::powered_down))]
 fn shown(registers: [u8; ads1299_registers::COUNT], codes: &[i32], channel: usize) -> i32
     requires { (0 < channel) × (channel ≤ channel_count) }
     ensures { result ≡ shown registers codes.now channel }
@@ -24,7 +27,7 @@ fn shown(registers: [u8; ads1299_registers::COUNT], codes: &[i32], channel: usiz
     if bits::is_set(registers[ads1299_registers::CH1SET + k], 7) {
         return 0;
     }
-    if k < codes.len() { codes[k] } else { 0 }
+    codes.get(k).copied().unwrap_or(0)
 }
 
 // The three bytes of the status word, in which P and N lie each across two bytes.
@@ -39,6 +42,7 @@ fn status_bytes(p: u8, n: u8, gpio: u8) -> [u8; WORD_LENGTH]
 }
 
 // The three bytes of word i of a frame: word 0 is the status word, word n is channel n's.
+#[tactic(auto, unfolding(crate::specs::Frame::frame_word))]
 fn word_bytes(
     registers: [u8; ads1299_registers::COUNT],
     codes: &[i32],
@@ -56,30 +60,15 @@ fn word_bytes(
     }
 }
 
-// The frame with the bytes of word i in their place.
-fn put(frame: [u8; LENGTH], i: usize, bytes: [u8; WORD_LENGTH]) -> [u8; LENGTH]
-    requires { i ≤ channel_count }
-    ensures { result ≡ spliced frame (word_length * i) bytes }
-{
-    let mut next = frame;
-    let at = WORD_LENGTH * i;
-    next[at] = bytes[0];
-    next[at + 1] = bytes[1];
-    next[at + 2] = bytes[2];
-    next
-}
-
 // The frame of a sample, word by word. A code that is not given counts as 0, and those after the eighth are not looked at.
 pub fn build(registers: [u8; ads1299_registers::COUNT], codes: &[i32], p: u8, n: u8) -> [u8; LENGTH]
     ensures { result ≡ frame_of registers codes.now p n }
 {
     let mut frame = [0u8; LENGTH];
-    let mut i = 0;
-    while i <= ads1299_registers::CHANNELS {
+    for i in 0..WORDS {
         let bytes = word_bytes(registers, codes, p, n, i);
-        let next = put(frame, i, bytes);
-        frame = next;
-        i += 1;
+        let at = WORD_LENGTH * i;
+        frame[at..at + WORD_LENGTH].copy_from_slice(&bytes);
     }
     frame
 }

@@ -1,5 +1,5 @@
 -- What a reading depends on.
-use Prim.Native.Nat.{ℕ, ◌+◌, ◌*◌, ◌/◌, ◌%◌, ◌^◌, ◌<◌}
+use Prim.Native.Nat.{ℕ, ◌<◌}
 use mathlib.Core.Path.{◌≡◌, sym, ◌∙◌, ap}
 use mathlib.Core.List.{List}
 use native.Mathlib.Nat.{zero-add}
@@ -10,7 +10,7 @@ use Rattle.bits.specs.Fields.{field}
 use Rattle.ads1299_codes.specs.Codes.{code_of}
 use Rattle.ads1299_codes.specs.Words.{word, word_at}
 use Rattle.ads1299_codes.specs.Rails.{rail_of}
-use Rattle.ads1299_readout.specs.Reading.{is_frame, channel_bytes, code_at, rail_at, status_p, status_n, LocalReading}
+use Rattle.ads1299_readout.specs.Reading.{is_frame, channel_bytes, code_at, rail_at, status_p, status_n, across, LocalReading}
 use Rattle.ads1299_codes.proofs.Words.{same_word}
 
 -- a channel's word is that of its three bytes
@@ -20,11 +20,11 @@ channel_word frame channel = same_word _ _ channel 0 (λ k h. rw (zero-add, get_
 
 -- P and N lie each across two bytes
 module _ (frame : List ℕ) (small : (i : ℕ) → get_or frame i 0 < 256) where
-  pub across_p : get_or frame 0 0 % 2 ^ 4 * 2 ^ 4 + get_or frame 1 0 / 2 ^ 4 ≡ status_p frame
+  pub across_p : across frame 0 ≡ status_p frame
   unfolding field word word_at status_p
   across_p = omega (arith, small 0, small 1, small 2)
 
-  pub across_n : get_or frame 1 0 % 2 ^ 4 * 2 ^ 4 + get_or frame 2 0 / 2 ^ 4 ≡ status_n frame
+  pub across_n : across frame 1 ≡ status_n frame
   unfolding field word word_at status_n
   across_n = omega (arith, small 0, small 1, small 2)
 

@@ -1,5 +1,5 @@
 -- What a frame says of a channel (document 01, "Samples and frames"; the rail by document 02, No. 3).
-use Rattle.std.specs.Prelude.{ℕ, ◌-◌, ◌*◌, ◌/◌, ◌^◌, ◌≡◌, Bool, ◌&&◌, List, eqb, ℤ, length, take, drop, get_or}
+use Rattle.std.specs.Prelude.{ℕ, ◌+◌, ◌-◌, ◌*◌, ◌/◌, ◌%◌, ◌^◌, ◌≡◌, Bool, ◌&&◌, List, eqb, ℤ, length, take, drop, get_or}
 use Rattle.bits.specs.Fields.{field, bit}
 use Rattle.ads1299_codes.specs.Codes.{code_of}
 use Rattle.ads1299_codes.specs.Words.{word_length, word_at}
@@ -34,6 +34,10 @@ status_p frame = field (word_at frame 0) 12 8
 -- gives N, the status word's bits 11:4
 unfoldable pub status_n : List ℕ → ℕ
 status_n frame = field (word_at frame 0) 4 8
+
+-- gives the byte that lies across two bytes of a list, from the low half of the one at a place on
+abbrev pub across : List ℕ → ℕ → ℕ
+across bytes at = get_or bytes at 0 % 2 ^ 4 * 2 ^ 4 + get_or bytes (at + 1) 0 / 2 ^ 4
 
 -- tells whether a channel's bit of P is 1; channel 0 counts as 1, and a channel above 8 has none
 unfoldable pub lead_off_p : List ℕ → ℕ → Bool

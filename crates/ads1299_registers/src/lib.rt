@@ -46,9 +46,5 @@ pub const CONFIG4: usize = 0x17;
 pub fn is_channel(channel: u32) -> bool
     ensures { result ≡ is_channel channel }
 {
-    if 1 <= channel {
-        channel <= CHANNELS as u32
-    } else {
-        false
-    }
+    (1..=CHANNELS as u32).contains(&channel)
 }

@@ -12,12 +12,12 @@ const LAST_ADDRESS: u8 = 31;
 const MOST_REGISTERS: u8 = 32;
 
 // A transfer's next address and the registers left come to this at most.
-const FURTHEST: u8 = LAST_ADDRESS + MOST_REGISTERS;
+const FURTHEST: u16 = LAST_ADDRESS as u16 + MOST_REGISTERS as u16;
 
 // The place of a frame's last byte, from 0.
 const LAST_PLACE: u8 = ads1299_frame::LENGTH as u8 - 1;
 
-#[derive(Clone, Copy)]
+#[derive(Clone, Copy, Debug, PartialEq, Eq)]
 pub enum Direction {
     Read,
     Write,
@@ -41,34 +41,20 @@ pub enum Phase {
     Counting(Transfer),
 }
 
-// What is being shifted out: nothing, or the frame from a place on.
-#[derive(Clone, Copy)]
-pub enum Output {
-    Empty,
-    At(u8),
-}
-
 // Whether the converter is between commands.
 pub fn is_waiting(phase: Phase) -> bool
     ensures { result ≡ is_waiting phase }
 {
-    match phase {
-        Phase::Waiting => true,
-        Phase::Held(_) => false,
-        Phase::Counting(_) => false,
-    }
+    matches!(phase, Phase::Waiting)
 }
 
+#[tactic(auto, unfolding(crate::specs::Transfers::countable))]
 fn is_countable(transfer: Transfer) -> bool
     ensures { result ≡ countable transfer }
 {
-    if transfer.remaining == 0 {
-        return false;
-    }
-    if MOST_REGISTERS < transfer.remaining {
-        return false;
-    }
-    transfer.address <= FURTHEST - transfer.remaining
+    transfer.remaining != 0
+        && transfer.remaining <= MOST_REGISTERS
+        && transfer.address as u16 + transfer.remaining as u16 <= FURTHEST
 }
 
 // Whether a converter can stand so in a command, given whether one may stand half given.
@@ -77,20 +63,8 @@ pub fn is_valid_phase(phase: Phase, interruptible: bool) -> bool
 {
     match phase {
         Phase::Waiting => true,
-        Phase::Held(transfer) => {
-            if interruptible {
-                transfer.address <= LAST_ADDRESS
-            } else {
-                false
-            }
-        }
-        Phase::Counting(transfer) => {
-            if interruptible {
-                is_countable(transfer)
-            } else {
-                false
-            }
-        }
+        Phase::Held(transfer) => interruptible && transfer.address <= LAST_ADDRESS,
+        Phase::Counting(transfer) => interruptible && is_countable(transfer),
     }
 }
 
@@ -98,12 +72,10 @@ pub fn is_valid_phase(phase: Phase, interruptible: bool) -> bool
 pub fn begin(transfer: Transfer, byte: u8) -> Phase
     ensures { result ≡ begun transfer byte }
 {
-    let direction = transfer.direction;
     if byte <= LAST_ADDRESS {
         Phase::Counting(Transfer {
-            direction,
-            address: transfer.address,
             remaining: byte + 1,
+            ..transfer
         })
     } else {
         Phase::Waiting
@@ -114,60 +86,48 @@ pub fn begin(transfer: Transfer, byte: u8) -> Phase
 pub fn remain(transfer: Transfer) -> Phase
     ensures { result ≡ remainder transfer }
 {
-    let direction = transfer.direction;
-    if 1 < transfer.remaining {
-        if is_countable(transfer) {
-            return Phase::Counting(Transfer {
-                direction,
-                address: transfer.address + 1,
-                remaining: transfer.remaining - 1,
-            });
-        }
+    if 1 < transfer.remaining && is_countable(transfer) {
+        Phase::Counting(Transfer {
+            direction: transfer.direction,
+            address: transfer.address + 1,
+            remaining: transfer.remaining - 1,
+        })
+    } else {
+        Phase::Waiting
     }
-    Phase::Waiting
 }
 
-// Whether the output's place, where it has one, is in the frame.
-pub fn is_valid_place(output: Output) -> bool
+// Whether the output's place, where it has one, is in the frame. The output is the frame that is being shifted out, from a place
+// on, or nothing.
+pub fn is_valid_place(output: Option<u8>) -> bool
     ensures { result ≡ valid_place output }
 {
     match output {
-        Output::Empty => true,
-        Output::At(place) => place <= LAST_PLACE,
+        None => true,
+        Some(place) => place <= LAST_PLACE,
     }
 }
 
 // The next output byte, or 0.
-pub fn pending_byte(output: Output, frame: [u8; ads1299_frame::LENGTH]) -> u8
+pub fn pending_byte(output: Option<u8>, frame: [u8; ads1299_frame::LENGTH]) -> u8
     ensures { result ≡ pending output frame }
 {
     match output {
-        Output::Empty => 0,
-        Output::At(place) => {
-            let at = place as usize;
-            if at < ads1299_frame::LENGTH {
-                frame[at]
-            } else {
-                0
-            }
-        }
+        None => 0,
+        Some(place) => frame.get(place as usize).copied().unwrap_or(0),
     }
 }
 
 // The output after its next byte: past the last byte it starts over or is empty.
-pub fn advance(output: Output, again: bool) -> Output
+pub fn advance(output: Option<u8>, again: bool) -> Option<u8>
     ensures { result ≡ advanced output again }
 {
-    match output {
-        Output::Empty => Output::Empty,
-        Output::At(place) => {
-            if place < LAST_PLACE {
-                Output::At(place + 1)
-            } else if again {
-                Output::At(0)
-            } else {
-                Output::Empty
-            }
-        }
+    let place = output?;
+    if place < LAST_PLACE {
+        Some(place + 1)
+    } else if again {
+        Some(0)
+    } else {
+        None
     }
 }

@@ -13,7 +13,7 @@ use Rattle.ads7953.specs.declared.Mode.TheVariants.{Manual, Auto1, Auto2}
 use Rattle.ads7953.specs.declared.words.Command.{Command}
 use Rattle.ads7953.specs.declared.words.Command.TheVariants.{Continue, SelectManual, SelectAuto1, SelectAuto2, ProgramAuto1, ProgramAuto2}
 use Rattle.ads7953.specs.declared.Ads7953.{Ads7953}
-use Rattle.ads7953.specs.declared.Framed.{Framed}
+use Rattle.ads7953.specs.Answers.{Framed}
 use Rattle.ads7953.specs.Words.{decoded, channel_in, last_in}
 use Rattle.ads7953.specs.Scan.{channel_count, listed_from, lowest_listed, next_listed, next_up_to, next_in, start_in}
 use Rattle.ads7953.specs.Latch.{advanced, programmed, restarts, manual_latched, auto_ordered, auto_latched, commanded, latched}

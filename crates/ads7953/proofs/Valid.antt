@@ -40,3 +40,6 @@ taken s code e =
     let off = (exact (frame_refusals s code) refl).refuses e in
     let v = not-false (valid s) off.0 in
     record { passed = v; channel = (parts s v).channel; fits = leb-false _ _ off.1.0 }
+
+pub reply_fits : (s : Ads7953) (code : ℕ) → frame_refusal s code ≡ none → (s.channel < channel_count) × (code < code_count)
+reply_fits s code e = let t = taken s code e in (t.channel, t.fits)

@@ -4,7 +4,7 @@ use Rattle.refusal.specs.Numbers.{none, bad_sample, invalid_state}
 use Rattle.refusal.specs.First.{first_of, accepted}
 use Rattle.ads7953.specs.declared.Mode.TheVariants.{Manual}
 use Rattle.ads7953.specs.declared.Ads7953.{Ads7953}
-use Rattle.ads7953.specs.declared.Framed.{Framed}
+use Rattle.ads7953.specs.Answers.{Framed}
 use Rattle.ads7953.specs.State.{state, with_channel, with_first}
 use Rattle.ads7953.specs.Scan.{channel_count}
 use Rattle.ads7953.specs.Latch.{latched}

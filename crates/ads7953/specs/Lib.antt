@@ -3,6 +3,7 @@ pub mod State
 pub mod Words
 pub mod Scan
 pub mod Latch
+pub mod Answers
 pub mod Frame
 pub mod Run
 pub mod Lag

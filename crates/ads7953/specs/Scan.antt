@@ -1,5 +1,5 @@
 -- Which channel comes next in each mode, and with which a mode starts (document 001, Tables 2 to 7).
-use Rattle.std.specs.Prelude.{ℕ, zero, suc, ◌+◌, ◌-◌, Bool, cond, ltb}
+use Rattle.std.specs.Prelude.{ℕ, zero, suc, ◌+◌, ◌-◌, Bool, cond, ltb, Option, None, Some}
 use Rattle.bits.specs.Fields.{bit}
 use Rattle.ads7953.specs.declared.Mode.{Mode}
 use Rattle.ads7953.specs.declared.Mode.TheVariants.{Manual, Auto1, Auto2}
@@ -20,6 +20,10 @@ listed_among list channel (suc more) = cond (listed list channel) channel (liste
 -- gives the lowest listed channel from one on; where there is none, a number above every channel
 unfoldable pub listed_from : ℕ → ℕ → ℕ
 listed_from list channel = listed_among list channel (channel_count - channel)
+
+-- gives the same, or None where there is none
+unfoldable pub found_from : ℕ → ℕ → Option ℕ
+found_from list channel = cond (ltb (listed_from list channel) channel_count) (Some (listed_from list channel)) None
 
 -- gives the lowest listed channel; with an empty list the present one
 unfoldable pub lowest_listed : ℕ → ℕ → ℕ

@@ -13,12 +13,12 @@ mod words;
 // The channels are 0 to 15.
 pub const CHANNELS: u8 = 16;
 
-// How the channels are sequenced.
-#[derive(Clone, Copy)]
+// How the channels are sequenced, each with its number in document 02.
+#[derive(Clone, Copy, Debug, PartialEq, Eq)]
 pub enum Mode {
-    Manual,
-    Auto1,
-    Auto2,
+    Manual = 0,
+    Auto1 = 1,
+    Auto2 = 2,
 }
 
 // A word asks for a channel (`ordered`), the next frame's multiplexer takes it (`channel`), and the frame after that replies it.
@@ -35,20 +35,18 @@ pub struct Ads7953 {
     pub first: bool, // no frame since power-up
 }
 
+// The reply to a frame, and the part after it.
 #[derive(Clone, Copy)]
-pub struct Framed {
-    pub refusal: u8,
+pub struct Exchange {
     pub reply: u16,
     pub next: Ads7953,
 }
 
-// A mode's number, in the order of document 02.
-pub fn mode_number(mode: Mode) -> u8
-    ensures { result ≡ mode_number mode }
-{
-    match mode {
-        Mode::Manual => 0,
-        Mode::Auto1 => 1,
-        Mode::Auto2 => 2,
+// A mode's number, for other languages.
+impl From<Mode> for u8 {
+    ghost from_gives = { λ mode number. number ≡ mode_number mode };
+
+    fn from(mode: Mode) -> u8 {
+        mode as u8
     }
 }

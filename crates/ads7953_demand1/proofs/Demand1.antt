@@ -3,9 +3,9 @@ use mathlib.Core.Path.{refl}
 use Rattle.refusal.specs.Numbers.{none}
 use Rattle.refusal.proofs.First.{exact}
 use Rattle.demand1.proofs.Demand1.{chosen}
-use Rattle.ads7953.specs.declared.Framed.{Framed}
+use Rattle.ads7953.specs.Answers.{Framed}
 use Rattle.ads7953.specs.Frame.{frame_refusals, frame_refusal, reply, followed, framed}
-use Rattle.ads7953_list.specs.declared.ListPlanned.{ListPlanned}
+use Rattle.ads7953_list.specs.Answers.{ListPlanned}
 use Rattle.ads7953_list.specs.Planned.{list_plan_length, list_refusals, list_refusal, list_planned, list_tx_after}
 use Rattle.ads7953_demand1.specs.Demand1.{Ads7953Demand1}
 

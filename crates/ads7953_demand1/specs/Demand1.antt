@@ -4,9 +4,9 @@ use Rattle.refusal.specs.First.{first_of, accepted}
 use Rattle.splice.specs.Splice.{room_at}
 use Rattle.demand1.specs.Demand1.{Judges}
 use Rattle.ads7953.specs.declared.Ads7953.{Ads7953}
-use Rattle.ads7953.specs.declared.Framed.{Framed}
+use Rattle.ads7953.specs.Answers.{Framed}
 use Rattle.ads7953.specs.Frame.{frame_refusals, framed}
-use Rattle.ads7953_list.specs.declared.ListPlanned.{ListPlanned}
+use Rattle.ads7953_list.specs.Answers.{ListPlanned}
 use Rattle.ads7953_list.specs.Planned.{list_refusals, list_planned, list_tx_after}
 
 -- A frame and a list are refused by the first test that applies and accepted exactly when none does, and a refusal changes nothing.

@@ -1,3 +1,4 @@
+pub mod Answers
 pub mod Planned
 pub mod Claims
 pub mod Figures

@@ -6,7 +6,7 @@ use Rattle.parties.specs.Parties.{known_party, is_admin}
 use Rattle.splice.specs.Splice.{spliced, room_at}
 use Rattle.ads7953.specs.declared.Ads7953.{Ads7953}
 use Rattle.ads7953.specs.Frame.{valid}
-use Rattle.ads7953_list.specs.declared.ListPlanned.{ListPlanned}
+use Rattle.ads7953_list.specs.Answers.{ListPlanned}
 
 -- gives the plan: 80 00 and the list, high byte first
 abbrev pub list_plan : ℕ → List ℕ

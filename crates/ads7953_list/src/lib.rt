@@ -1,66 +1,54 @@
 // The planner of the ADS7953's auto-1 channel list (document 02, No. 6): the administrator alone sends it, and sends it whole.
 #![tactic(auto)]
 
-ghost use Rattle.std.specs.Prelude.{◌≡◌, ◌≤◌, length};
-ghost use Rattle.splice.specs.Splice.{spliced, room_at};
-ghost use Rattle.ads7953_list.specs.Planned.{list_plan, list_plan_length, list_refusal, list_planned, list_tx_after};
+ghost use Rattle.std.specs.Prelude.{◌≡◌};
+ghost use Rattle.refusal.specs.Refusals.{answer_number};
+ghost use Rattle.splice.specs.Splice.{room_at};
+ghost use Rattle.ads7953_list.specs.Planned.{list_plan, list_refusal, list_planned, list_tx_after};
+ghost use Rattle.ads7953_list.specs.Answers.{list_answer};
 
 use ads7953::Ads7953;
+use refusal::Refusal;
 
 // The bytes of a plan: two words.
 pub const LENGTH: usize = 4;
 
-// A plan's answer; a state after is not part of it, since the plan is sent in frames that have codes.
-#[derive(Clone, Copy)]
-pub struct ListPlanned {
-    pub refusal: u8,
-    pub length: usize,
-}
-
 // The tests in the order of document 02.
-fn refuse(state: Ads7953, party: u32, list: u16, room: usize) -> u8
-    ensures { result ≡ list_refusal state party list room }
+fn judge_list(state: Ads7953, party: u32, list: u16, room: usize) -> Result<(), Refusal>
+    ensures { answer_number result ≡ list_refusal state party list room }
 {
-    let valid = state.is_valid();
-    let known = parties::is_known(party);
-    let admin = parties::is_admin(party);
-    let numbers = [
-        refusal::when(!valid, refusal::INVALID_STATE),
-        refusal::when(!known, refusal::UNKNOWN_PARTY),
-        refusal::when(!admin, refusal::NOT_OWNER),
-        refusal::when(list == 0, refusal::EMPTY_LIST),
-        refusal::when(state.programming, refusal::NOT_WAITING),
-        refusal::when(room < LENGTH, refusal::NO_ROOM),
-    ];
-    refusal::first_of(&numbers)
+    refusal::first_of(&[
+        refusal::when(!state.is_valid(), Refusal::InvalidState),
+        refusal::when(!parties::is_known(party), Refusal::UnknownParty),
+        refusal::when(!parties::is_admin(party), Refusal::NotOwner),
+        refusal::when(list == 0, Refusal::EmptyList),
+        refusal::when(state.programming, Refusal::NotWaiting),
+        refusal::when(room < LENGTH, Refusal::NoRoom),
+    ])
 }
 
-// The plan writer: the plan goes over the start of the part that it is lent.
-fn write_list(part: &mut [u8], list: u16)
-    requires { list_plan_length ≤ length part.old }
-    ensures { part.new ≡ spliced part.old 0 (list_plan list) }
+// The plan: the word that enters programming, and the list, each high byte first.
+fn make_plan(list: u16) -> [u8; LENGTH]
+    ensures { result ≡ list_plan list }
 {
-    let plan = [0x80, 0x00, (list / 256) as u8, (list % 256) as u8];
-    part[..LENGTH].copy_from_slice(&plan);
+    let [high, low] = list.to_be_bytes();
+    [0x80, 0x00, high, low]
 }
 
 // Plans a list, bit n for channel n: the plan goes into the transmit buffer (document 01: sheet) from a place on, and all else there
-// stays.
-pub fn plan_list(state: Ads7953, party: u32, list: u16, tx: &mut [u8], at: usize) -> ListPlanned
-    ensures { (result ≡ list_planned state party list (room_at tx.old at))
+// stays. Gives the plan's length; no state after, since the plan is sent in frames that have codes.
+#[tactic(auto, using(crate::proofs::Accepted::within, crate::proofs::Accepted::planned_at), unfolding(crate::specs::Planned::list_planned, crate::specs::Planned::list_tx_after))]
+pub fn plan_list(
+    state: Ads7953,
+    party: u32,
+    list: u16,
+    tx: &mut [u8],
+    at: usize,
+) -> Result<usize, Refusal>
+    ensures { (list_answer result ≡ list_planned state party list (room_at tx.old at))
         × (tx.new ≡ list_tx_after state party list tx.old at) }
 {
-    let number = refuse(state, party, list, splice::count_room(tx, at));
-    if number == refusal::NONE {
-        write_list(&mut tx[at..], list);
-        ListPlanned {
-            refusal: refusal::NONE,
-            length: LENGTH,
-        }
-    } else {
-        ListPlanned {
-            refusal: number,
-            length: 0,
-        }
-    }
+    judge_list(state, party, list, splice::count_room(tx, at))?;
+    tx[at..at + LENGTH].copy_from_slice(&make_plan(list));
+    Ok(LENGTH)
 }

@@ -1,3 +1,5 @@
+pub mod Accepts
+pub mod Four
 pub mod Line
 pub mod Converters
 pub mod Owners

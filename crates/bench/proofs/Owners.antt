@@ -26,7 +26,7 @@ owners_of l = flatten (map (λ (c : Converter). c.owners) l)
 -- lists of eight, one after the other
 eights : (l : List Converter) → ((k : ℕ) → k < length l → length (get_or l k blank).owners ≡ channel_count) → (k i : ℕ) → k < length l → i < channel_count
     → get_or (owners_of l) (channel_count * k + i) 0 ≡ get_or (get_or l k blank).owners i 0
-unfolding map flatten
+unfolding flatten
 eights [] whole k i hk hi = absurd (omega (arith, hk))
 eights (c ∷ l) whole zero i hk hi =
     ap (λ (place : ℕ). get_or (c.owners ++ owners_of l) place 0) (omega arith)

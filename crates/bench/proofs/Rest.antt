@@ -71,7 +71,6 @@ abbrev owners_of : List Converter → List (List ℕ)
 owners_of l = map (λ (c : Converter). c.owners) l
 
 same_owners : (l : List Converter) (k : ℕ) (c : Converter) → c.owners ≡ (get_or l k blank).owners → owners_of (set l k c) ≡ owners_of l
-unfolding map
 same_owners [] k c e = refl
 same_owners (x ∷ l) zero c e = ap (λ (w : List ℕ). w ∷ owners_of l) e
 same_owners (x ∷ l) (suc k) c e = ap (λ (rest : List (List ℕ)). x.owners ∷ rest) (same_owners l k c e)

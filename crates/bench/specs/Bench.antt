@@ -1,7 +1,6 @@
 -- The bench: four converters, each with its eight owners, which together are the bench's 32 (document 02, No. 4).
-use Rattle.std.specs.Prelude.{ℕ, Bool, false, get_or, set}
+use Rattle.std.specs.Prelude.{ℕ, Bool, false, get_or, set, None}
 use mathlib.Core.List.{List, [], map, flatten}
-use Rattle.ads1299_serial.specs.declared.Output.TheVariants.{Empty}
 use Rattle.ads1299_serial.specs.declared.Phase.TheVariants.{Waiting}
 use Rattle.ads1299.specs.declared.Converter.{Converter}
 use Rattle.ads1299.specs.State.{state}
@@ -11,7 +10,7 @@ use Rattle.bench.specs.declared.Bench.{Bench}
 
 -- what is read at a number that no converter has: it fails 13
 abbrev pub blank : Converter
-blank = state [] [] [] Empty false false false [] Waiting
+blank = state [] [] [] None false false false [] Waiting
 
 -- gives the converter of a number
 abbrev pub at : Bench → ℕ → Converter

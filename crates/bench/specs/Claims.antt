@@ -1,7 +1,6 @@
 -- What is claimed of the bench beyond its functions' contracts.
-use Rattle.std.specs.Prelude.{ℕ, ◌+◌, ◌<◌, ◌≡◌, true, List, ℤ, replicate}
+use Rattle.std.specs.Prelude.{ℕ, ◌+◌, ◌<◌, ◌≡◌, true, List, ℤ, replicate, None}
 use Rattle.refusal.specs.Numbers.{none}
-use Rattle.ads1299_serial.specs.declared.Output.TheVariants.{Empty}
 use Rattle.ads1299_serial.specs.declared.Phase.TheVariants.{Waiting}
 use Rattle.ads1299_serial.specs.Transfers.{most_registers}
 use Rattle.ads1299.specs.Run.{after}
@@ -64,5 +63,5 @@ ReachesWaiting = (b : Bench) → valid_bench b ≡ true → (k : ℕ) → k < co
 -- A select rise changes nothing of a bench where the line's converter waits with nothing pending.
 abbrev pub IdleDeselect : Type 0
 IdleDeselect =
-    (b : Bench) → valid_bench b ≡ true → (k : ℕ) → k < converter_count → (at b k).phase ≡ Waiting → (at b k).output ≡ Empty
+    (b : Bench) → valid_bench b ≡ true → (k : ℕ) → k < converter_count → (at b k).phase ≡ Waiting → (at b k).output ≡ None
     → bench_deselected b k ≡ bench_moved none b

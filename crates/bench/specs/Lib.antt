@@ -1,3 +1,4 @@
+pub mod Answers
 pub mod Bench
 pub mod Formed
 pub mod PowerUp

@@ -7,8 +7,7 @@ use Rattle.ads1299.specs.Deselect.{deselected}
 use Rattle.ads1299.specs.Sample.{running, complete, sampled}
 use Rattle.lines.specs.Lines.{is_converter}
 use Rattle.bench.specs.declared.Bench.{Bench}
-use Rattle.bench.specs.declared.BenchStepped.{BenchStepped}
-use Rattle.bench.specs.declared.BenchMoved.{BenchMoved}
+use Rattle.bench.specs.Answers.{BenchStepped, BenchMoved}
 use Rattle.bench.specs.Bench.{at, with_converter, valid_bench}
 
 -- the refusals of a byte and of a select rise, in the order in which they are tried

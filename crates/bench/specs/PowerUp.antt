@@ -4,7 +4,7 @@ use Rattle.refusal.specs.Numbers.{none, invalid_state}
 use Rattle.ads1299.specs.PowerUp.{valid_id, powered_up}
 use Rattle.lines.specs.Lines.{converter_count, converter_numbers, every_converter}
 use Rattle.bench.specs.declared.Bench.{Bench}
-use Rattle.bench.specs.declared.BenchPoweredUp.{BenchPoweredUp}
+use Rattle.bench.specs.Answers.{BenchPoweredUp}
 
 -- every ID is an ADS1299's
 unfoldable pub valid_ids : List ℕ → Bool

@@ -10,6 +10,7 @@ ghost use Rattle.bench.specs.Bench.{valid_bench};
 
 use ads1299::Converter;
 use lines::CONVERTERS;
+use refusal::Refusal;
 
 // Owners stay with each converter: four times eight are the bench's 32.
 #[derive(Clone, Copy)]
@@ -17,22 +18,17 @@ pub struct Bench {
     pub converters: [Converter; CONVERTERS],
 }
 
+// What power-up answers. No Result: a refused power-up hands back a bench too, as that of one converter does.
 #[derive(Clone, Copy)]
-pub struct BenchPoweredUp {
-    pub refusal: u8,
+pub struct BenchStartup {
+    pub refusal: Option<Refusal>,
     pub bench: Bench,
 }
 
+// The byte that goes out, and the bench after the byte that came in.
 #[derive(Clone, Copy)]
-pub struct BenchStepped {
-    pub refusal: u8,
+pub struct BenchExchange {
     pub out: u8,
-    pub next: Bench,
-}
-
-#[derive(Clone, Copy)]
-pub struct BenchMoved {
-    pub refusal: u8,
     pub next: Bench,
 }
 
@@ -41,14 +37,6 @@ impl Bench {
     pub fn is_valid(self) -> bool
         ensures { result ≡ valid_bench self }
     {
-        let converters = self.converters;
-        if converters[0].is_valid() {
-            if converters[1].is_valid() {
-                if converters[2].is_valid() {
-                    return converters[3].is_valid();
-                }
-            }
-        }
-        false
+        self.converters.iter().all(|converter| converter.is_valid())
     }
 }

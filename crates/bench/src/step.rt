@@ -1,91 +1,66 @@
-// A byte, a select rise and a sample for one of the converters.
-ghost use Rattle.std.specs.Prelude.{◌≡◌};
+// What comes on the lines of one of the converters: a byte, a select rise and a sample.
+ghost use Rattle.std.specs.Prelude.{◌≡◌, ◌<◌, IfOk};
+ghost use Rattle.refusal.specs.Refusals.{answer_number};
+ghost use Rattle.lines.specs.Lines.{converter_count};
+ghost use Rattle.bench.specs.Answers.{bench_step_answer, bench_moved_answer};
+ghost use Rattle.bench.specs.Bench.{with_converter};
 ghost use Rattle.bench.specs.Line.{line_refusal, bench_stepped, bench_deselected, bench_sampled};
 
-use crate::{Bench, BenchMoved, BenchStepped};
+use crate::{Bench, BenchExchange};
+use ads1299::{Converter, Exchange};
+use refusal::Refusal;
 
 impl Bench {
-    // Every converter's state before the number.
-    fn refuse_line(self, number: u32) -> u8
-        ensures { result ≡ line_refusal self number }
+    // The place of the converter of a number. Every converter's state before the number.
+    #[tactic(auto, unfolding(crate::specs::Line::line_refusal))]
+    fn line(self, number: u32) -> Result<usize, Refusal>
+        ensures refusal { answer_number result ≡ line_refusal self number }
+        ensures place { IfOk result (λ k. (k ≡ number) × (k < converter_count)) }
     {
-        if self.is_valid() {
-            if lines::is_converter(number) {
-                return refusal::NONE;
-            }
-            return refusal::WRONG_CHANNEL;
+        if !self.is_valid() {
+            return Err(Refusal::InvalidState);
         }
-        refusal::INVALID_STATE
+        if !lines::is_converter(number) {
+            return Err(Refusal::WrongChannel);
+        }
+        Ok(number as usize)
+    }
+
+    fn with(mut self, k: usize, converter: Converter) -> Bench
+        requires { k < converter_count }
+        ensures { result ≡ with_converter self k converter }
+    {
+        self.converters[k] = converter;
+        self
     }
 
     // Takes a byte in for one converter and gives one out.
-    pub fn step(self, number: u32, byte: u8) -> BenchStepped
-        ensures { result ≡ bench_stepped self number byte }
+    pub fn step(self, number: u32, byte: u8) -> Result<BenchExchange, Refusal>
+        ensures { bench_step_answer self result ≡ bench_stepped self number byte }
     {
-        let refused = self.refuse_line(number);
-        if refused == refusal::NONE {
-            let k = number as usize;
-            let mut converters = self.converters;
-            let stepped = converters[k].step(byte);
-            let next = stepped.next;
-            converters[k] = next;
-            BenchStepped {
-                refusal: refusal::NONE,
-                out: stepped.out,
-                next: Bench { converters },
-            }
-        } else {
-            BenchStepped {
-                refusal: refused,
-                out: 0,
-                next: self,
-            }
-        }
+        let k = self.line(number)?;
+        let Exchange { out, next } = self.converters[k].step(byte)?;
+        Ok(BenchExchange {
+            out,
+            next: self.with(k, next),
+        })
     }
 
     // The select line of one converter rises.
-    pub fn deselect(self, number: u32) -> BenchMoved
-        ensures { result ≡ bench_deselected self number }
+    pub fn deselect(self, number: u32) -> Result<Bench, Refusal>
+        ensures { bench_moved_answer self result ≡ bench_deselected self number }
     {
-        let refused = self.refuse_line(number);
-        if refused == refusal::NONE {
-            let k = number as usize;
-            let mut converters = self.converters;
-            let deselected = converters[k].deselect();
-            let risen = deselected.next;
-            converters[k] = risen;
-            BenchMoved {
-                refusal: refusal::NONE,
-                next: Bench { converters },
-            }
-        } else {
-            BenchMoved {
-                refusal: refused,
-                next: self,
-            }
-        }
+        let k = self.line(number)?;
+        let risen = self.converters[k].deselect()?;
+        Ok(self.with(k, risen))
     }
 
     // One converter takes a sample.
-    pub fn sample(self, number: u32, codes: &[i32], p: u8, n: u8) -> BenchMoved
-        ensures { result ≡ bench_sampled self number codes.now p n }
+    pub fn sample(self, number: u32, codes: &[i32], p: u8, n: u8) -> Result<Bench, Refusal>
+        ensures { bench_moved_answer self result ≡ bench_sampled self number codes.now p n }
     {
-        let refused = self.refuse_line(number);
-        if refused == refusal::NONE {
-            let k = number as usize;
-            let mut converters = self.converters;
-            let moved = converters[k].sample(codes, p, n);
-            let sampled = moved.next;
-            converters[k] = sampled;
-            BenchMoved {
-                refusal: moved.refusal,
-                next: Bench { converters },
-            }
-        } else {
-            BenchMoved {
-                refusal: refused,
-                next: self,
-            }
-        }
+        let k = self.line(number)?;
+        let sampled = self.converters[k].sample(codes, p, n)?;
+        Ok(self.with(k, sampled))
     }
 }

@@ -15,7 +15,7 @@ use Rattle.ads1299.specs.Sample.{sampled}
 use Rattle.grants.specs.Grant.{granted}
 use Rattle.readings.specs.declared.Reading.{Reading}
 use Rattle.readings.specs.Reading.{reading}
-use Rattle.planner.specs.declared.Planned.{Planned}
+use Rattle.planner.specs.Answers.{Planned}
 use Rattle.planner.specs.Submission.{Submission}
 use Rattle.planner.specs.Planned.{planned}
 use Rattle.demand1.specs.Demand1.{Judges}

@@ -10,9 +10,7 @@ use Rattle.planner.specs.Submission.{Submission}
 use Rattle.demand1.specs.Demand1.{Judges}
 use Rattle.lines.specs.Lines.{converter_count}
 use Rattle.bench.specs.declared.Bench.{Bench}
-use Rattle.bench.specs.declared.BenchPoweredUp.{BenchPoweredUp}
-use Rattle.bench.specs.declared.BenchStepped.{BenchStepped}
-use Rattle.bench.specs.declared.BenchMoved.{BenchMoved}
+use Rattle.bench.specs.Answers.{BenchPoweredUp, BenchStepped, BenchMoved}
 use Rattle.bench.specs.Formed.{FormedBench}
 use Rattle.bench.specs.PowerUp.{valid_ids, started, bench_powered_up}
 use Rattle.bench.specs.Line.{line_refusals, bench_sample_refusals, bench_moved, bench_stepped, bench_deselected, bench_sampled}

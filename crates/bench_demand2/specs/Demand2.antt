@@ -1,9 +1,8 @@
 -- Demand 2 on the bench: what demand2.Demand2 says of one converter, with each byte of a plan sent to the plan's own converter, and every other
 -- converter as it was. Then the rise of that converter's select line (document 02, No. 4).
-use Rattle.std.specs.Prelude.{ℕ, ◌<◌, ◌≡◌, true, false, [], length, replicate}
+use Rattle.std.specs.Prelude.{ℕ, ◌<◌, ◌≡◌, true, false, [], length, replicate, None}
 use Rattle.refusal.specs.Numbers.{none}
 use Rattle.refusal.specs.First.{first_of, Exact}
-use Rattle.ads1299_serial.specs.declared.Output.TheVariants.{Empty}
 use Rattle.ads1299.specs.State.{with_registers, with_output}
 use Rattle.ads1299_fields.specs.declared.Place.{Place}
 use Rattle.ads1299_settings.specs.Registers.{read_at}
@@ -45,7 +44,7 @@ pub record Fulfilled (b : Bench) (x : Submission) : Type 0 where
       → read_at (at (sent b x) (bench_planned b x).converter).registers j ≡ read_at (at b (bench_planned b x).converter).registers j
   -- all but its registers is as it was, the modes too, and nothing is pending
   pub rest : at (sent b x) (bench_planned b x).converter
-      ≡ with_output (with_registers (at b (bench_planned b x).converter) (at (sent b x) (bench_planned b x).converter).registers) Empty
+      ≡ with_output (with_registers (at b (bench_planned b x).converter) (at (sent b x) (bench_planned b x).converter).registers) None
   -- every other converter is wholly as it was
   pub others : (k : ℕ) → (k ≡ (bench_planned b x).converter → ⊥) → at (sent b x) k ≡ at b k
   -- the planner answers the bench in which the bytes end, which passes 13, and how many they are

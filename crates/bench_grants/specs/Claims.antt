@@ -4,7 +4,7 @@ use Rattle.refusal.specs.Numbers.{none}
 use Rattle.refusal.specs.First.{first_of}
 use Rattle.ads1299.specs.State.{with_owners}
 use Rattle.bench.specs.declared.Bench.{Bench}
-use Rattle.bench.specs.declared.BenchMoved.{BenchMoved}
+use Rattle.bench.specs.Answers.{BenchMoved}
 use Rattle.bench.specs.Bench.{at, valid_bench, bench_owners}
 use Rattle.bench.specs.Formed.{FormedBench}
 use Rattle.bench_grants.specs.Grant.{bench_granted, bench_grant_refusals}

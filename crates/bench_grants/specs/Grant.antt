@@ -6,7 +6,7 @@ use Rattle.grants.specs.Grant.{granted}
 use Rattle.lines.specs.Lines.{converter_of, local_channel}
 use Rattle.lines.specs.Ranges.{is_bench_channel}
 use Rattle.bench.specs.declared.Bench.{Bench}
-use Rattle.bench.specs.declared.BenchMoved.{BenchMoved}
+use Rattle.bench.specs.Answers.{BenchMoved}
 use Rattle.bench.specs.Bench.{at, with_converter, valid_bench}
 use Rattle.bench.specs.Line.{bench_moved}
 

@@ -1,4 +1,5 @@
 -- Every list of requests follows the reference model: by induction on the list, with HeldBench as its invariant.
+use Rattle.std.specs.Prelude.{None}
 use Prim.Native.Nat.{ℕ, ◌<◌}
 use mathlib.Core.Path.{◌≡◌, refl, sym, ◌∙◌, ap}
 use mathlib.Core.Bool.{Bool, true, cond, ◌&&◌, ◌||◌}
@@ -8,7 +9,6 @@ use lib.Dec.{eqb}
 use lib.ListN.{length}
 use Rattle.cases.proofs.Cases.{split, and_both, and_false}
 use Rattle.refusal.specs.First.{accepted}
-use Rattle.ads1299_serial.specs.declared.Output.TheVariants.{Empty}
 use Rattle.ads1299.specs.declared.Converter.{Converter}
 use Rattle.ads1299.specs.State.{with_registers, with_output}
 use Rattle.ads1299_settings.specs.Settings.{Values}
@@ -69,9 +69,9 @@ counts t x k lt =
 
 -- the output
 rest_next_bench : (t : Bench) → length t.converters ≡ converter_count → (x : Submission) (k : ℕ) → k < converter_count → (l : List ℕ) (e : Bool)
-    → with_output (with_registers (at (next_bench t x) k) l) (cond e Empty (at (next_bench t x) k).output)
+    → with_output (with_registers (at (next_bench t x) k) l) (cond e None (at (next_bench t x) k).output)
     ≡ with_output (with_registers (at t k) l)
-    (cond ((names k x.request.channel && accepted (bench_planned t x).refusal) || e) Empty (at t k).output)
+    (cond ((names k x.request.channel && accepted (bench_planned t x).refusal) || e) None (at t k).output)
 rest_next_bench t size x k lt l e =
     rw (next_at t size x k, counts t x k lt)
     (split (reaches t x k)
@@ -107,7 +107,7 @@ module _ (b : Bench) (h : FormedBench b) where
       (held.each (converter_of n) (below_four n)).cells f (local_channel n) name ∙ ap (c f) (back n (low f (local_channel n) name))
 
   all_else : (l : List Submission) (t : Bench) (c : Values) → HeldBench b t c → (k : ℕ) → k < converter_count
-      → at (end t l) k ≡ with_output (with_registers (at t k) (at (end t l) k).registers) (cond (touched k l (numbers t l)) Empty (at t k).output)
+      → at (end t l) k ≡ with_output (with_registers (at t k) (at (end t l) k).registers) (cond (touched k l (numbers t l)) None (at t k).output)
   unfolding end numbers touched
   all_else [] t c held k lt = refl
   all_else (x ∷ l) t c held k lt =

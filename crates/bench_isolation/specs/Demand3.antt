@@ -1,9 +1,8 @@
 -- Demand 3 on the bench (document 02, No. 4): what isolation.Demand3 says of one converter, over all four. A cell goes by the number that a
 -- request names it with; bits of no field, and all else, are each converter's own. A plan is for the converter that its request names, and a
 -- second bench takes each byte on that converter's line. No rise of a select line is needed between plans for different converters.
-use Rattle.std.specs.Prelude.{ℕ, ◌<◌, ◌≡◌, true, cond}
+use Rattle.std.specs.Prelude.{ℕ, ◌<◌, ◌≡◌, true, cond, None}
 use mathlib.Core.List.{List, flatten}
-use Rattle.ads1299_serial.specs.declared.Output.TheVariants.{Empty}
 use Rattle.ads1299.specs.State.{with_registers, with_output}
 use Rattle.ads1299_fields.specs.Places.{bit_at}
 use Rattle.ads1299_fields.specs.Layout.{Free}
@@ -28,7 +27,7 @@ pub record FollowsReference (b : Bench) (l : List Submission) : Type 0 where
   pub fields : (f n : ℕ) → bench_named f n ≡ true → bench_field (end b l) f n ≡ reference_cells b l f n
   pub free_bits : (k r i : ℕ) → k < converter_count → Free r i → read_at (at (end b l) k).registers (bit_at r i) ≡ read_at (at b k).registers (bit_at r i)
   pub all_else : (k : ℕ) → k < converter_count
-      → at (end b l) k ≡ with_output (with_registers (at b k) (at (end b l) k).registers) (cond (touched k l (numbers b l)) Empty (at b k).output)
+      → at (end b l) k ≡ with_output (with_registers (at b k) (at (end b l) k).registers) (cond (touched k l (numbers b l)) None (at b k).output)
   pub formed : FormedBench (end b l)
   pub sent : bench_after b (flatten (plans b l)) ≡ end b l
 

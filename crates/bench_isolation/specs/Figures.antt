@@ -1,11 +1,9 @@
 -- Worked figures: how many cells the bench has, and lists of several parties' requests over its four converters, in several orders and from
 -- several benches.
-use Rattle.std.specs.Prelude.{ℕ, ◌+◌, false, cond, List, [], ◌∷◌, map, get_or}
+use Rattle.std.specs.Prelude.{ℕ, ◌+◌, false, cond, List, [], ◌∷◌, map, get_or, Option, None, Some}
 use Rattle.cases.specs.Figures.{Hold}
 use Rattle.ads1299_registers.specs.Addresses.{CONFIG1, BIAS_SENSP}
 use Rattle.ads1299_serial.specs.declared.Direction.TheVariants.{Read}
-use Rattle.ads1299_serial.specs.declared.Output.{Output}
-use Rattle.ads1299_serial.specs.declared.Output.TheVariants.{Empty, At}
 use Rattle.ads1299_serial.specs.declared.Phase.TheVariants.{Held}
 use Rattle.ads1299_serial.specs.Transfers.{transfer}
 use Rattle.ads1299.specs.declared.Converter.{Converter}
@@ -30,7 +28,7 @@ cell_count = sum_below (field_count + 1) (λ f. sum_below (last_number + 1) (λ 
 -- output at the end
 pub data Figure : Type 0 where
   counted : ℕ → Figure
-  listed : Bench → List Submission → List ℕ → List (List (ℕ × ℕ)) → ℕ → List ℕ → List Output → Figure
+  listed : Bench → List Submission → List ℕ → List (List (ℕ × ℕ)) → ℕ → List ℕ → List (Option ℕ) → Figure
 
 -- gives a figure worked out anew
 abbrev pub worked_out : Figure → Figure
@@ -49,7 +47,7 @@ rate party number value = record { party = party; request = request 12 number (v
 
 -- gives a fresh converter with output pending, and these owners
 abbrev pub pending : List ℕ → Converter
-pending owners = with_output (with_owners (powered_up 0x3E).converter owners) (At 3)
+pending owners = with_output (with_owners (powered_up 0x3E).converter owners) (Some 3)
 
 -- gives a bench of these, the last in command mode: channels 1, 9 and 10 are party 1's, channels 2, 11 and 32 party 2's
 abbrev pub shared : Bench
@@ -70,7 +68,7 @@ invalid = with_converter shared 3 (with_continuous (pending (0 ∷ 0 ∷ 0 ∷ 0
 abbrev pub halfway : Bench
 halfway =
     with_converter shared 2
-    (with_phase (with_continuous (with_output (pending (0 ∷ 0 ∷ 0 ∷ 0 ∷ 0 ∷ 0 ∷ 0 ∷ 0 ∷ [])) Empty) false) (Held (transfer Read BIAS_SENSP 0)))
+    (with_phase (with_continuous (with_output (pending (0 ∷ 0 ∷ 0 ∷ 0 ∷ 0 ∷ 0 ∷ 0 ∷ 0 ∷ [])) None) false) (Held (transfer Read BIAS_SENSP 0)))
 
 -- gives the plan in continuous mode with a data byte for CONFIG1
 abbrev pub writes_rate : ℕ → List ℕ
@@ -93,30 +91,30 @@ figures =
     ∷ listed shared (on 1 1 5 ∷ on 2 2 5 ∷ on 1 9 5 ∷ on 1 11 5 ∷ on 2 11 5 ∷ on 1 10 5 ∷ on 2 32 5 ∷ [])
     (0 ∷ 0 ∷ 0 ∷ 6 ∷ 0 ∷ 0 ∷ 0 ∷ [])
     (bytes_for 0 (writes 0x01) ∷ bytes_for 0 (writes 0x03) ∷ bytes_for 1 (writes 0x01) ∷ [] ∷ bytes_for 1 (writes 0x05) ∷ bytes_for 1 (writes 0x07) ∷ last_bit ∷ [])
-    BIAS_SENSP (four 0x03 0x07 0x00 0x80) (four Empty Empty (At 3) Empty)
+    BIAS_SENSP (four 0x03 0x07 0x00 0x80) (four None None (Some 3) None)
     ∷ listed shared (on 2 2 5 ∷ on 2 11 5 ∷ on 1 1 5 ∷ on 2 32 5 ∷ on 1 9 5 ∷ on 1 11 5 ∷ on 1 10 5 ∷ [])
     (0 ∷ 0 ∷ 0 ∷ 0 ∷ 0 ∷ 6 ∷ 0 ∷ [])
     (bytes_for 0 (writes 0x02) ∷ bytes_for 1 (writes 0x04) ∷ bytes_for 0 (writes 0x03) ∷ last_bit ∷ bytes_for 1 (writes 0x05) ∷ [] ∷ bytes_for 1 (writes 0x07) ∷ [])
-    BIAS_SENSP (four 0x03 0x07 0x00 0x80) (four Empty Empty (At 3) Empty)
+    BIAS_SENSP (four 0x03 0x07 0x00 0x80) (four None None (Some 3) None)
     ∷ listed shared (on 1 9 5 ∷ whole 2 11 12 ∷ whole 1 11 12 ∷ whole 1 10 11 ∷ whole 2 32 10 ∷ [])
     (0 ∷ 0 ∷ 6 ∷ 9 ∷ 0 ∷ [])
     (bytes_for 1 (writes 0x01) ∷ bytes_for 1 (writes_whole 0x47 0x05 0x04) ∷ [] ∷ [] ∷ last_whole ∷ [])
-    BIAS_SENSP (four 0x00 0x05 0x00 0x80) (four (At 3) Empty (At 3) Empty)
+    BIAS_SENSP (four 0x00 0x05 0x00 0x80) (four (Some 3) None (Some 3) None)
     ∷ listed shared (whole 2 11 12 ∷ whole 2 32 10 ∷ on 1 9 5 ∷ whole 1 11 12 ∷ whole 1 10 11 ∷ [])
     (0 ∷ 0 ∷ 0 ∷ 6 ∷ 9 ∷ [])
     (bytes_for 1 (writes_whole 0x47 0x04 0x04) ∷ last_whole ∷ bytes_for 1 (writes 0x05) ∷ [] ∷ [] ∷ [])
-    BIAS_SENSP (four 0x00 0x05 0x00 0x80) (four (At 3) Empty (At 3) Empty)
+    BIAS_SENSP (four 0x00 0x05 0x00 0x80) (four (Some 3) None (Some 3) None)
     ∷ listed shared (rate 0 33 5 ∷ rate 1 33 5 ∷ rate 0 9 5 ∷ on 1 33 5 ∷ rate 0 36 5 ∷ rate 0 35 7 ∷ rate 0 0 4 ∷ [])
     (0 ∷ 6 ∷ 5 ∷ 5 ∷ 5 ∷ 7 ∷ 0 ∷ [])
     (bytes_for 1 (writes_rate 0x95) ∷ [] ∷ [] ∷ [] ∷ [] ∷ [] ∷ bytes_for 0 (writes_rate 0x94) ∷ [])
-    CONFIG1 (four 0x94 0x95 0x96 0x96) (four Empty Empty (At 3) (At 3))
+    CONFIG1 (four 0x94 0x95 0x96 0x96) (four None None (Some 3) (Some 3))
     ∷ listed shared (on 9 1 5 ∷ on 2 11 4 ∷ on 2 32 3 ∷ []) (3 ∷ 9 ∷ 0 ∷ []) ([] ∷ [] ∷ last_bit ∷ [])
-    BIAS_SENSP (four 0x00 0x00 0x00 0x80) (four (At 3) (At 3) (At 3) Empty)
+    BIAS_SENSP (four 0x00 0x00 0x00 0x80) (four (Some 3) (Some 3) (Some 3) None)
     ∷ listed halfway (on 0 17 5 ∷ on 1 1 5 ∷ rate 0 34 5 ∷ on 1 17 5 ∷ on 2 11 5 ∷ on 0 24 0 ∷ [])
     (8 ∷ 0 ∷ 8 ∷ 6 ∷ 0 ∷ 8 ∷ []) ([] ∷ bytes_for 0 (writes 0x01) ∷ [] ∷ [] ∷ bytes_for 1 (writes 0x04) ∷ [] ∷ [])
-    BIAS_SENSP (four 0x01 0x04 0x00 0x00) (four Empty Empty Empty (At 3))
+    BIAS_SENSP (four 0x01 0x04 0x00 0x00) (four None None None (Some 3))
     ∷ listed invalid (on 1 1 5 ∷ on 9 1 5 ∷ on 2 11 5 ∷ rate 0 36 5 ∷ []) (13 ∷ 13 ∷ 13 ∷ 13 ∷ []) ([] ∷ [] ∷ [] ∷ [] ∷ [])
-    BIAS_SENSP (four 0x00 0x00 0x00 0x00) (four (At 3) (At 3) (At 3) (At 3))
+    BIAS_SENSP (four 0x00 0x00 0x00 0x00) (four (Some 3) (Some 3) (Some 3) (Some 3))
     ∷ []
 
 -- Every figure of the table is what the definitions give.

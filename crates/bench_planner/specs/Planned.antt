@@ -2,7 +2,7 @@
 use Rattle.std.specs.Prelude.{ℕ, cond, List, []}
 use Rattle.refusal.specs.Numbers.{invalid_state}
 use Rattle.refusal.specs.First.{accepted}
-use Rattle.planner.specs.declared.Planned.{Planned}
+use Rattle.planner.specs.Answers.{Planned}
 use Rattle.planner.specs.Submission.{Submission}
 use Rattle.planner.specs.Planned.{plan, planned}
 use Rattle.bench.specs.declared.Bench.{Bench}

@@ -8,8 +8,7 @@ use Rattle.refusal.specs.First.{accepted}
 use Rattle.demand1.proofs.Demand1.{kept_by}
 use Rattle.lines.specs.Lines.{converter_count}
 use Rattle.bench.specs.declared.Bench.{Bench}
-use Rattle.bench.specs.declared.BenchMoved.{BenchMoved}
-use Rattle.bench.specs.declared.BenchStepped.{BenchStepped}
+use Rattle.bench.specs.Answers.{BenchMoved, BenchStepped}
 use Rattle.bench.specs.Line.{bench_deselected, bench_sampled}
 use Rattle.bench_grants.specs.Grant.{bench_granted}
 use Rattle.bench_planner.specs.declared.BenchPlanned.{BenchPlanned}

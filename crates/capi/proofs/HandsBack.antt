@@ -12,7 +12,7 @@ use Rattle.ads1299.specs.Step.{stepped}
 use Rattle.ads1299.specs.Deselect.{deselected}
 use Rattle.ads1299.specs.Sample.{sampled}
 use Rattle.grants.specs.Grant.{granted}
-use Rattle.planner.specs.declared.Planned.{Planned}
+use Rattle.planner.specs.Answers.{Planned}
 use Rattle.planner.specs.Submission.{Submission}
 use Rattle.planner.specs.Planned.{planned}
 use Rattle.planner.specs.Buffer.{tx_after}

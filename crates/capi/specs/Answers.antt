@@ -12,7 +12,7 @@ use Rattle.ads1299.specs.Answers.{Stepped}
 use Rattle.ads1299.specs.Answers.{Moved}
 use Rattle.readings.specs.declared.Reading.{Reading}
 use Rattle.readings.specs.Reading.{channel_reading, part_bytes, part_place}
-use Rattle.planner.specs.declared.Planned.{Planned}
+use Rattle.planner.specs.Answers.{Planned}
 use Rattle.flat.specs.declared.FlatConverter.{FlatConverter}
 use Rattle.capi.specs.declared.FlatPoweredUp.{FlatPoweredUp}
 use Rattle.capi.specs.declared.FlatStepped.{FlatStepped}

@@ -3,9 +3,7 @@ use Rattle.std.specs.Prelude.{ℕ, cond, List, length}
 use Rattle.refusal.specs.Numbers.{invalid_state}
 use Rattle.readings.specs.declared.Reading.{Reading}
 use Rattle.bench.specs.declared.Bench.{Bench}
-use Rattle.bench.specs.declared.BenchPoweredUp.{BenchPoweredUp}
-use Rattle.bench.specs.declared.BenchStepped.{BenchStepped}
-use Rattle.bench.specs.declared.BenchMoved.{BenchMoved}
+use Rattle.bench.specs.Answers.{BenchPoweredUp, BenchStepped, BenchMoved}
 use Rattle.bench_planner.specs.declared.BenchPlanned.{BenchPlanned}
 use Rattle.bench_readings.specs.Reading.{bench_reading, bench_part_bytes, bench_part_place}
 use Rattle.flat_bench.specs.declared.FlatBench.{FlatBench}

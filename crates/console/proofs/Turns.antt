@@ -16,7 +16,7 @@ use Rattle.request.specs.Reading.{parsed}
 use Rattle.request.proofs.Reading.{few_values}
 use Rattle.request.proofs.RoundTrip.{round_trip}
 use Rattle.ads1299.specs.declared.Converter.{Converter}
-use Rattle.planner.specs.declared.Planned.{Planned}
+use Rattle.planner.specs.Answers.{Planned}
 use Rattle.planner.specs.Submission.{Submission, submission}
 use Rattle.planner.specs.Plan.{plan_of, plan_length, longest_plan}
 use Rattle.planner.specs.Planned.{refusal_of, plan, planned}

@@ -26,7 +26,7 @@ use Rattle.ads1299.specs.Sample.{sample_refusals, sample_refusal, sampled}
 use Rattle.grants.specs.Grant.{grant_refusals, grant_refusal, granted}
 use Rattle.readings.specs.Reading.{reading_refusals, reading_refusal, channel_reading, part_bytes}
 use Rattle.ads1299_settings.specs.Registers.{field_of}
-use Rattle.planner.specs.declared.Planned.{Planned}
+use Rattle.planner.specs.Answers.{Planned}
 use Rattle.planner.specs.Submission.{Submission}
 use Rattle.planner.specs.Refusals.{refusals, judged}
 use Rattle.planner.specs.Planned.{plan, planned}

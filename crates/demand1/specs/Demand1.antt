@@ -26,7 +26,7 @@ use Rattle.readings.specs.declared.Reading.{Reading}
 use Rattle.grants.specs.Grant.{grant_refusals, granted}
 use Rattle.readings.specs.Reading.{reading_refusals, reading, channel_reading, part_bytes}
 use Rattle.ads1299_settings.specs.Registers.{field_of}
-use Rattle.planner.specs.declared.Planned.{Planned}
+use Rattle.planner.specs.Answers.{Planned}
 use Rattle.planner.specs.Submission.{Submission}
 use Rattle.planner.specs.Refusals.{refusals}
 use Rattle.planner.specs.Planned.{planned}

@@ -1,4 +1,5 @@
 -- Bytes through the byte step, and those of a plan that leave the modes and go back to them.
+use Rattle.std.specs.Prelude.{Option, None}
 use Prim.Native.Nat.{ℕ, ◌+◌, ◌-◌, ◌%◌, ◌<◌}
 use mathlib.Core.Path.{◌≡◌, refl, ◌∙◌, ap}
 use mathlib.Core.Bool.{Bool, true, false, cond, ◌||◌}
@@ -8,8 +9,6 @@ use borrow.Author.Tests.{ne_eqb}
 use lib.ListN.{length, get_or, replicate}
 use Rattle.refusal.specs.Numbers.{none}
 use Rattle.ads1299_registers.specs.Addresses.{ID, register_count}
-use Rattle.ads1299_serial.specs.declared.Output.{Output}
-use Rattle.ads1299_serial.specs.declared.Output.TheVariants.{Empty}
 use Rattle.ads1299_serial.specs.declared.Phase.{Phase}
 use Rattle.ads1299_serial.specs.declared.Phase.TheVariants.{Waiting}
 use Rattle.ads1299_commands.specs.declared.Command.TheVariants.{Wreg}
@@ -69,36 +68,36 @@ decoded_write a h =
 
 -- each byte of a plan, from a state that waits
 module _ (r w t : List ℕ) (v : Bool) (f : List ℕ) (id : valid_id (get_or r ID 0) ≡ true) (known : known_owners w ≡ true) where
-  abbrev at : Output → Bool → Bool → Phase → Converter
+  abbrev at : Option ℕ → Bool → Bool → Phase → Converter
   at o c b p = state r w t o c b v f p
 
-  pub waits_valid : (o : Output) (c b : Bool) → valid_place o ≡ true → valid (at o c b Waiting) ≡ true
+  pub waits_valid : (o : Option ℕ) (c b : Bool) → valid_place o ≡ true → valid (at o c b Waiting) ≡ true
   waits_valid o c b e = whole (at o c b Waiting) (record { id = id; place = e; phase = refl; owners = known })
 
-  by_wakeup : (o : Output) (c : Bool) → valid_place o ≡ true → (stepped (at o c true Waiting) WAKEUP).next ≡ at Empty c false Waiting
+  by_wakeup : (o : Option ℕ) (c : Bool) → valid_place o ≡ true → (stepped (at o c true Waiting) WAKEUP).next ≡ at None c false Waiting
   unfolding followed commanded decoded acts effect emptied
   by_wakeup o c e = next_is (at o c true Waiting) WAKEUP (waits_valid o c true e)
 
-  by_sdatac : (o : Output) → valid_place o ≡ true → (stepped (at o true false Waiting) SDATAC).next ≡ at Empty false false Waiting
+  by_sdatac : (o : Option ℕ) → valid_place o ≡ true → (stepped (at o true false Waiting) SDATAC).next ≡ at None false false Waiting
   unfolding followed commanded decoded acts effect emptied
   by_sdatac o e = next_is (at o true false Waiting) SDATAC (waits_valid o true false e)
 
-  by_rdatac : (stepped (at Empty false false Waiting) RDATAC).next ≡ at Empty true false Waiting
+  by_rdatac : (stepped (at None false false Waiting) RDATAC).next ≡ at None true false Waiting
   unfolding followed commanded decoded acts effect emptied
-  by_rdatac = next_is (at Empty false false Waiting) RDATAC (waits_valid Empty false false refl)
+  by_rdatac = next_is (at None false false Waiting) RDATAC (waits_valid None false false refl)
 
-  by_standby : (c : Bool) → (stepped (at Empty c false Waiting) STANDBY).next ≡ at Empty c true Waiting
+  by_standby : (c : Bool) → (stepped (at None c false Waiting) STANDBY).next ≡ at None c true Waiting
   unfolding followed commanded decoded acts effect emptied
-  by_standby c = next_is (at Empty c false Waiting) STANDBY (waits_valid Empty c false refl)
+  by_standby c = next_is (at None c false Waiting) STANDBY (waits_valid None c false refl)
 
-  pub enters : (o : Output) (c b : Bool) → valid_place o ≡ true → after (at o c b Waiting) (entering b c) ≡ at (cond (b || c) Empty o) false false Waiting
+  pub enters : (o : Option ℕ) (c b : Bool) → valid_place o ≡ true → after (at o c b Waiting) (entering b c) ≡ at (cond (b || c) None o) false false Waiting
   unfolding after
-  enters o true true e = ap (λ (x : Converter). after x (SDATAC ∷ [])) (by_wakeup o true e) ∙ by_sdatac Empty refl
+  enters o true true e = ap (λ (x : Converter). after x (SDATAC ∷ [])) (by_wakeup o true e) ∙ by_sdatac None refl
   enters o false true e = by_wakeup o false e
   enters o true false e = by_sdatac o e
   enters o false false e = refl
 
-  pub leaves : (c b : Bool) → after (at Empty false false Waiting) (leaving b c) ≡ at Empty c b Waiting
+  pub leaves : (c b : Bool) → after (at None false false Waiting) (leaving b c) ≡ at None c b Waiting
   unfolding after
   leaves true true = ap (λ (x : Converter). after x (STANDBY ∷ [])) by_rdatac ∙ by_standby true
   leaves false true = by_standby false

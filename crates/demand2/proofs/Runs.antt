@@ -1,4 +1,5 @@
 -- Runs of registers, byte by byte through the byte step: where they lead.
+use Rattle.std.specs.Prelude.{Option, None}
 use Prim.Native.Nat.{ℕ, zero, suc, ◌+◌, ◌<◌, ◌≤◌}
 use mathlib.Core.Path.{◌≡◌, refl, sym, ◌∙◌, ap}
 use mathlib.Core.Bool.{Bool, true, false, cond, ◌&&◌}
@@ -13,8 +14,6 @@ use Rattle.cases.proofs.Cases.{split, and_both}
 use Rattle.bits.specs.Fields.{masked}
 use Rattle.ads1299_registers.specs.Addresses.{register_count}
 use Rattle.ads1299_registers.specs.Table.{masks}
-use Rattle.ads1299_serial.specs.declared.Output.{Output}
-use Rattle.ads1299_serial.specs.declared.Output.TheVariants.{Empty}
 use Rattle.ads1299_serial.specs.declared.Phase.{Phase}
 use Rattle.ads1299_serial.specs.declared.Phase.TheVariants.{Waiting, Held, Counting}
 use Rattle.ads1299_serial.specs.declared.Direction.TheVariants.{Write}
@@ -41,7 +40,7 @@ written_from l a (d ∷ bytes) = written_from (written l a d) (a + 1) bytes
 
 module _ (w t : List ℕ) (v : Bool) (f : List ℕ) where
   abbrev at : List ℕ → Phase → Converter
-  at r p = state r w t Empty false false v f p
+  at r p = state r w t None false false v f p
 
   -- the data bytes, one by one
   counts : (bytes : List ℕ) (d a : ℕ) (r : List ℕ) → valid (at r (Counting (transfer Write a (length bytes + 1)))) ≡ true
@@ -56,7 +55,7 @@ module _ (w t : List ℕ) (v : Bool) (f : List ℕ) where
       ∙ counts bytes g (a + 1) (written r a d) (rw one at ((stays_valid s e).by_byte d))
 
   -- a whole command, from a state that waits
-  writes : (o : Output) (a d : ℕ) (bytes r : List ℕ) → valid (state r w t o false false v f Waiting) ≡ true → a < register_count → length bytes ≤ 31
+  writes : (o : Option ℕ) (a d : ℕ) (bytes r : List ℕ) → valid (state r w t o false false v f Waiting) ≡ true → a < register_count → length bytes ≤ 31
       → after (state r w t o false false v f Waiting) ((WREG + a) ∷ length bytes ∷ d ∷ bytes) ≡ at (written_from r a (d ∷ bytes)) Waiting
   unfolding after followed commanded acts effect emptied begun
   writes o a d bytes r e h small =
@@ -127,7 +126,7 @@ module _ (m : List ℕ) (new_size : length m ≡ register_count) where
       }
 
   module _ (w t : List ℕ) (v : Bool) (f : List ℕ) where
-    one_run : (o : Output) (x : Run) (l : List ℕ) → x.first + x.further < register_count → valid (state l w t o false false v f Waiting) ≡ true
+    one_run : (o : Option ℕ) (x : Run) (l : List ℕ) → x.first + x.further < register_count → valid (state l w t o false false v f Waiting) ≡ true
         → after (state l w t o false false v f Waiting) (writing m x) ≡ at w t v f (written_from l x.first (registers_from m x.first (suc x.further))) Waiting
     unfolding registers_from
     one_run o x l h e =
@@ -137,7 +136,7 @@ module _ (m : List ℕ) (new_size : length m ≡ register_count) where
         ∙ writes w t v f o a (get_or m a 0) bytes l e (omega arith) (omega (arith, registers_length m (a + 1) x.further))
 
     -- every run, the first with output pending or not
-    pub sent_runs : (runs : List Run) (o : Output) (x : Run) (l : List ℕ) → every (λ (y : Run). ltb (y.first + y.further) register_count) (x ∷ runs) ≡ true
+    pub sent_runs : (runs : List Run) (o : Option ℕ) (x : Run) (l : List ℕ) → every (λ (y : Run). ltb (y.first + y.further) register_count) (x ∷ runs) ≡ true
         → Leads l m (x ∷ runs) → valid (state l w t o false false v f Waiting) ≡ true
         → after (state l w t o false false v f Waiting) (writing_all m (x ∷ runs)) ≡ at w t v f m Waiting
     unfolding writing_all after
@@ -153,5 +152,5 @@ module _ (m : List ℕ) (new_size : length m ≡ register_count) where
         let one = one_run o x l inside z in
         after_append (writing m x) s (writing_all m (next ∷ runs))
         ∙ ap (λ (u : Converter). after u (writing_all m (next ∷ runs))) one
-        ∙ sent_runs runs Empty next (written_from l x.first (registers_from m x.first (suc x.further))) b.1 (leads_next l x (next ∷ runs) inside e)
+        ∙ sent_runs runs None next (written_from l x.first (registers_from m x.first (suc x.further))) b.1 (leads_next l x (next ∷ runs) inside e)
         (rw one at (after_valid (writing m x) s z))

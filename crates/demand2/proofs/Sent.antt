@@ -1,4 +1,5 @@
 -- A plan's bytes, one by one through the byte step, lead to the state that was planned.
+use Rattle.std.specs.Prelude.{Option, None}
 use Prim.Native.Nat.{ℕ, ◌+◌}
 use mathlib.Core.Path.{◌≡◌, refl, sym, ◌∙◌, ap}
 use mathlib.Core.Bool.{Bool, true, false, cond, not, ◌||◌, false≢true}
@@ -13,8 +14,6 @@ use Rattle.bits.proofs.Masks.{passes_same}
 use Rattle.refusal.specs.First.{accepted}
 use Rattle.ads1299_registers.specs.Addresses.{ID, register_count}
 use Rattle.ads1299_registers.specs.Table.{masks}
-use Rattle.ads1299_serial.specs.declared.Output.{Output}
-use Rattle.ads1299_serial.specs.declared.Output.TheVariants.{Empty}
 use Rattle.ads1299_serial.specs.declared.Phase.{Phase}
 use Rattle.ads1299_serial.specs.declared.Phase.TheVariants.{Waiting}
 use Rattle.ads1299_serial.specs.Output.{valid_place}
@@ -42,15 +41,15 @@ use Rattle.demand2.proofs.Modes.{after_append, after_valid, waits_valid, enters,
 use Rattle.demand2.proofs.Runs.{Leads, sent_runs}
 
 -- runs of registers around which the modes are left and gone back to
-module _ (l w t : List ℕ) (o : Output) (c b v : Bool) (f : List ℕ) (id : valid_id (get_or l ID 0) ≡ true) (known : known_owners w ≡ true) (place_valid : valid_place o ≡ true) where
+module _ (l w t : List ℕ) (o : Option ℕ) (c b v : Bool) (f : List ℕ) (id : valid_id (get_or l ID 0) ≡ true) (known : known_owners w ≡ true) (place_valid : valid_place o ≡ true) where
   sent_around : (m : List ℕ) → length m ≡ register_count → (x : Run) (more : List Run)
       → every (λ (y : Run). ltb (y.first + y.further) register_count) (x ∷ more) ≡ true → Leads l m (x ∷ more)
-      → after (state l w t o c b v f Waiting) (around b c (writing_all m (x ∷ more))) ≡ state m w t Empty c b v f Waiting
+      → after (state l w t o c b v f Waiting) (around b c (writing_all m (x ∷ more))) ≡ state m w t None c b v f Waiting
   sent_around m size x more inside leads =
       let s = state l w t o c b v f Waiting in
       let body = writing_all m (x ∷ more) in
-      let o' = cond (b || c) Empty o in
-      let in_place : valid_place o' ≡ true = either (λ (x : Output). valid_place x ≡ true) (b || c) (λ e. refl) (λ e. place_valid) in
+      let o' = cond (b || c) None o in
+      let in_place : valid_place o' ≡ true = either (λ (x : Option ℕ). valid_place x ≡ true) (b || c) (λ e. refl) (λ e. place_valid) in
       let awake = waits_valid l w t v f id known o' false false in_place in
       let wrote = sent_runs m size w t v f more o' x l inside leads awake in
       let still = rw wrote at (after_valid body (state l w t o' false false v f Waiting) awake) in

@@ -1,8 +1,7 @@
 -- Demand 2: a request is accepted exactly when no refusal applies; its bytes make its settings and change nothing else.
-use Rattle.std.specs.Prelude.{ℕ, ◌<◌, ◌≡◌, true, false, [], length, replicate}
+use Rattle.std.specs.Prelude.{ℕ, ◌<◌, ◌≡◌, true, false, [], length, replicate, None}
 use Rattle.refusal.specs.Numbers.{none}
 use Rattle.refusal.specs.First.{first_of, Exact}
-use Rattle.ads1299_serial.specs.declared.Output.TheVariants.{Empty}
 use Rattle.ads1299.specs.declared.Converter.{Converter}
 use Rattle.ads1299.specs.State.{with_registers, with_output}
 use Rattle.ads1299.specs.Formed.{Formed}
@@ -34,7 +33,7 @@ pub record Fulfilled (s : Converter) (x : Submission) : Type 0 where
   -- and so is every place, of any register, that has no bit of a field that is set
   pub others : (j : Place) → all_apart x.request.channel (settings x.request) j ≡ true → read_at (sent s x).registers j ≡ read_at s.registers j
   -- all but the registers is as it was, the modes too, and nothing is pending
-  pub rest : sent s x ≡ with_output (with_registers s (sent s x).registers) Empty
+  pub rest : sent s x ≡ with_output (with_registers s (sent s x).registers) None
   -- the planner answers the state in which the bytes end, which passes 13, and how many they are
   pub next : (planned s x).next ≡ sent s x
   pub passes : valid (planned s x).next ≡ true

@@ -1,11 +1,10 @@
 -- The figures of document 01 ("The program, and figures to check", those marked M), in one table.
-use Rattle.std.specs.Prelude.{ℕ, true, List, [], ◌∷◌, ℤ, pos, neg_ℤ, replicate, set, take}
+use Rattle.std.specs.Prelude.{ℕ, true, List, [], ◌∷◌, ℤ, pos, neg_ℤ, replicate, set, take, Some}
 use Rattle.cases.specs.Figures.{Hold}
 use Rattle.ads1299_registers.specs.Addresses.{CONFIG1, CH1SET, BIAS_SENSP, GPIO, register_count}
 use Rattle.ads1299_codes.specs.Codes.{word_of, code_of}
 use Rattle.ads1299_codes.specs.Words.{word_bytes, word_at}
 use Rattle.ads1299_frame.specs.Frame.{frame_length, frame_of}
-use Rattle.ads1299_serial.specs.declared.Output.TheVariants.{At}
 use Rattle.ads1299.specs.declared.Converter.{Converter}
 use Rattle.ads1299.specs.State.{with_registers, with_owners, with_latest, with_output, with_standby, with_converting, with_shifting}
 use Rattle.ads1299.specs.PowerUp.{restored}
@@ -44,7 +43,7 @@ tenants = 1 ∷ 2 ∷ 3 ∷ 4 ∷ 5 ∷ 6 ∷ 7 ∷ 8 ∷ []
 abbrev pub used : Converter
 used =
     with_shifting
-    (with_output (with_converting (with_latest (with_owners (with_register (with_register fresh CONFIG1 0xF5) CH1SET 0x00) tenants) (replicate frame_length 0x55)) true) (At 0))
+    (with_output (with_converting (with_latest (with_owners (with_register (with_register fresh CONFIG1 0xF5) CH1SET 0x00) tenants) (replicate frame_length 0x55)) true) (Some 0))
     (replicate frame_length 0xAA)
 
 -- gives the table, in the order of document 01; the bytes for a fresh channel register as document 02, No. 2 has them

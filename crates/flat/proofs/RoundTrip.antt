@@ -1,4 +1,5 @@
 -- The flat form and back, from either side.
+use Rattle.std.specs.Prelude.{Option, None, Some}
 use Prim.Native.Nat.{ℕ, zero, suc}
 use mathlib.Core.Path.{◌≡◌, refl, sym}
 use mathlib.Core.Bool.{Bool, true, false, ◌&&◌}
@@ -8,8 +9,6 @@ use native.Mathlib.Omega.{arith}
 use Rattle.cases.proofs.Cases.{and_both}
 use Rattle.ads1299_serial.specs.declared.Direction.{Direction}
 use Rattle.ads1299_serial.specs.declared.Direction.TheVariants.{Read, Write}
-use Rattle.ads1299_serial.specs.declared.Output.{Output}
-use Rattle.ads1299_serial.specs.declared.Output.TheVariants.{Empty, At}
 use Rattle.ads1299_serial.specs.declared.Phase.{Phase}
 use Rattle.ads1299_serial.specs.declared.Phase.TheVariants.{Waiting, Held, Counting}
 use Rattle.ads1299_serial.specs.Transfers.{transfer}
@@ -18,17 +17,17 @@ use Rattle.ads1299.specs.State.{state}
 use Rattle.flat.specs.declared.FlatConverter.{FlatConverter}
 use Rattle.flat.specs.Codes.{on}
 use Rattle.flat.specs.Flat.{flag_code, direction_code, output_code, place_of, phase_code, transfer_of, flat}
-use Rattle.flat.specs.States.{is_flag, are_flags, is_output, is_phase, is_state, direction_of, output_of, phase_of, state_of}
-use Rattle.flat.specs.Claims.{RoundTrip}
+use Rattle.flat.specs.States.{is_flag, are_flags, is_output, is_phase, is_state, direction_of, output_of, phase_of, state_of, state_in}
+use Rattle.flat.specs.Claims.{RoundTrip, ComesBack}
 
 pub flag_stands : (b : Bool) → is_flag (flag_code b) ≡ true
 flag_stands true = refl
 flag_stands false = refl
 
-output_stands : (o : Output) → is_output (output_code o) (place_of o) ≡ true
+output_stands : (o : Option ℕ) → is_output (output_code o) (place_of o) ≡ true
 unfolding is_output
-output_stands Empty = refl
-output_stands (At place) = refl
+output_stands None = refl
+output_stands (Some place) = refl
 
 direction_stands : (d : Direction) → leb (direction_code d) 1 ≡ true
 direction_stands Read = refl
@@ -48,9 +47,9 @@ pub flag_returns : (b : Bool) → eqb (flag_code b) on ≡ b
 flag_returns true = refl
 flag_returns false = refl
 
-output_returns : (o : Output) → output_of (output_code o) (place_of o) ≡ o
-output_returns Empty = refl
-output_returns (At place) = refl
+output_returns : (o : Option ℕ) → output_of (output_code o) (place_of o) ≡ o
+output_returns None = refl
+output_returns (Some place) = refl
 
 direction_returns : (d : Direction) → direction_of (direction_code d) ≡ d
 direction_returns Read = refl
@@ -79,7 +78,7 @@ direction_flat (suc zero) e = refl
 direction_flat (suc (suc n)) e = absurd (omega (arith, leb-true (suc (suc n)) 1 e))
 
 -- An output's code and place are those of the output that they give.
-record SameOutput (code place : ℕ) (o : Output) : Type 0 where
+record SameOutput (code place : ℕ) (o : Option ℕ) : Type 0 where
   code_same : output_code o ≡ code
   place_same : place_of o ≡ place
 
@@ -137,3 +136,7 @@ returns_flat_lem f e =
 
 pub round_trip : RoundTrip
 round_trip = record { stands = stands; returns = returns; returns_flat = returns_flat_lem }
+
+pub comes_back : ComesBack
+unfolding state_in
+comes_back s = simp (stands s, returns s)

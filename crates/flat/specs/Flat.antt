@@ -1,9 +1,7 @@
 -- The flat form of a state: bytes alone, for other languages.
-use Rattle.std.specs.Prelude.{ℕ, Bool, cond}
+use Rattle.std.specs.Prelude.{ℕ, Bool, cond, Option, None, Some}
 use Rattle.ads1299_serial.specs.declared.Direction.{Direction}
 use Rattle.ads1299_serial.specs.declared.Direction.TheVariants.{Read, Write}
-use Rattle.ads1299_serial.specs.declared.Output.{Output}
-use Rattle.ads1299_serial.specs.declared.Output.TheVariants.{Empty, At}
 use Rattle.ads1299_serial.specs.declared.Phase.{Phase}
 use Rattle.ads1299_serial.specs.declared.Phase.TheVariants.{Waiting, Held, Counting}
 use Rattle.ads1299_serial.specs.declared.Transfer.{Transfer}
@@ -22,14 +20,14 @@ direction_code Read = read
 direction_code Write = write
 
 -- gives the code of whether anything is shifted out
-abbrev pub output_code : Output → ℕ
-output_code Empty = empty
-output_code (At place) = at_place
+abbrev pub output_code : Option ℕ → ℕ
+output_code None = empty
+output_code (Some place) = at_place
 
 -- gives the output's place, and 0 where it has none
-abbrev pub place_of : Output → ℕ
-place_of Empty = 0
-place_of (At place) = place
+abbrev pub place_of : Option ℕ → ℕ
+place_of None = 0
+place_of (Some place) = place
 
 -- gives the code of where the converter stands in a command
 abbrev pub phase_code : Phase → ℕ

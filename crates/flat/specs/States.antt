@@ -1,9 +1,9 @@
 -- The way back: which flat forms stand for a state, and for which.
-use Rattle.std.specs.Prelude.{ℕ, Bool, cond, ◌&&◌, eqb, leb}
+use Rattle.std.specs.Prelude.{ℕ, Bool, cond, ◌&&◌, eqb, leb, Option, None, Some, Result, Ok, Err}
+use Rattle.refusal.specs.declared.Refusal.{Refusal}
+use Rattle.refusal.specs.declared.Refusal.TheVariants.{InvalidState}
 use Rattle.ads1299_serial.specs.declared.Direction.{Direction}
 use Rattle.ads1299_serial.specs.declared.Direction.TheVariants.{Read, Write}
-use Rattle.ads1299_serial.specs.declared.Output.{Output}
-use Rattle.ads1299_serial.specs.declared.Output.TheVariants.{Empty, At}
 use Rattle.ads1299_serial.specs.declared.Phase.{Phase}
 use Rattle.ads1299_serial.specs.declared.Phase.TheVariants.{Waiting, Held, Counting}
 use Rattle.ads1299_serial.specs.declared.Transfer.{Transfer}
@@ -44,8 +44,8 @@ abbrev pub direction_of : ℕ → Direction
 direction_of code = cond (eqb code write) Write Read
 
 -- gives the output of a code and a place
-abbrev pub output_of : ℕ → ℕ → Output
-output_of code place = cond (eqb code at_place) (At place) Empty
+abbrev pub output_of : ℕ → ℕ → Option ℕ
+output_of code place = cond (eqb code at_place) (Some place) None
 
 -- gives the phase of a code and a transfer
 abbrev pub phase_of : ℕ → Transfer → Phase
@@ -57,3 +57,7 @@ state_of f =
     state f.registers f.owners f.latest (output_of f.output f.place)
     (eqb f.continuous on) (eqb f.standby on) (eqb f.converting on)
     f.shifting (phase_of f.phase (transfer (direction_of f.direction) f.address f.remaining))
+
+-- gives the state that a flat form stands for; where it stands for none, refusal 13
+unfoldable pub state_in : FlatConverter → Result Converter Refusal
+state_in f = cond (is_state f) (Ok (state_of f)) (Err InvalidState)

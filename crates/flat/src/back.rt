@@ -1,60 +1,49 @@
 // Which flat forms stand for a state, and for which.
 ghost use Rattle.std.specs.Prelude.{◌≡◌};
-ghost use Rattle.flat.specs.States.{are_flags, is_output, is_phase, is_state, direction_of, output_of, phase_of, state_of};
+ghost use Rattle.flat.specs.States.{are_flags, is_output, is_phase, is_state, direction_of, output_of, phase_of, state_of, state_in};
 
 use super::codes::{AT_PLACE, COUNTING, EMPTY, HELD, ON, WAITING, WRITE};
 use crate::FlatConverter;
 use ads1299::Converter;
-use ads1299_serial::{Direction, Output, Phase, Transfer};
+use ads1299_serial::{Direction, Phase, Transfer};
+use refusal::Refusal;
 
 fn are_flags(continuous: u8, standby: u8, converting: u8) -> bool
     ensures { result ≡ are_flags continuous standby converting }
 {
-    if continuous <= ON {
-        if standby <= ON {
-            return converting <= ON;
-        }
-    }
-    false
+    continuous <= ON && standby <= ON && converting <= ON
 }
 
+#[tactic(auto, unfolding(crate::specs::States::is_output))]
 fn is_output(code: u8, place: u8) -> bool
     ensures { result ≡ is_output code place }
 {
-    if code == EMPTY {
-        place == 0
-    } else {
-        code == AT_PLACE
+    match code {
+        EMPTY => place == 0,
+        AT_PLACE => true,
+        _ => false,
     }
 }
 
+#[tactic(auto, unfolding(crate::specs::States::is_phase))]
 fn is_phase(code: u8, direction: u8, address: u8, remaining: u8) -> bool
     ensures { result ≡ is_phase code direction address remaining }
 {
-    if code == WAITING {
-        if direction == 0 {
-            if address == 0 {
-                return remaining == 0;
-            }
-        }
-        return false;
+    match code {
+        WAITING => direction == 0 && address == 0 && remaining == 0,
+        HELD | COUNTING => direction <= WRITE,
+        _ => false,
     }
-    if code <= COUNTING {
-        return direction <= WRITE;
-    }
-    false
 }
 
 // Whether the bytes stand for a state. Whether a converter can be in that state is judged by each call.
+#[tactic(auto, unfolding(crate::specs::States::is_state))]
 pub fn is_state(state: FlatConverter) -> bool
     ensures { result ≡ is_state state }
 {
-    if are_flags(state.continuous, state.standby, state.converting) {
-        if is_output(state.output, state.place) {
-            return is_phase(state.phase, state.direction, state.address, state.remaining);
-        }
-    }
-    false
+    are_flags(state.continuous, state.standby, state.converting)
+        && is_output(state.output, state.place)
+        && is_phase(state.phase, state.direction, state.address, state.remaining)
 }
 
 fn direction_of(code: u8) -> Direction
@@ -67,53 +56,64 @@ fn direction_of(code: u8) -> Direction
     }
 }
 
-fn output_of(code: u8, place: u8) -> Output
+fn output_of(code: u8, place: u8) -> Option<u8>
     ensures { result ≡ output_of code place }
 {
-    if code == AT_PLACE {
-        Output::At(place)
-    } else {
-        Output::Empty
-    }
+    (code == AT_PLACE).then_some(place)
 }
 
 fn phase_of(code: u8, transfer: Transfer) -> Phase
     ensures { result ≡ phase_of code transfer }
 {
-    if code == HELD {
-        return Phase::Held(transfer);
+    match code {
+        HELD => Phase::Held(transfer),
+        COUNTING => Phase::Counting(transfer),
+        _ => Phase::Waiting,
     }
-    if code == COUNTING {
-        return Phase::Counting(transfer);
-    }
-    Phase::Waiting
 }
 
-// The state that the bytes stand for; of no use where is_state says no.
+// The state that the bytes stand for; of no use where is_state says no. It stays beside TryFrom, as what could not fail still cannot.
+#[tactic(auto, unfolding(crate::specs::States::state_of))]
 pub fn state_of(state: FlatConverter) -> Converter
     ensures { result ≡ state_of state }
 {
-    let registers = state.registers;
-    let owners = state.owners;
-    let latest = state.latest;
-    let shifting = state.shifting;
-    let output = output_of(state.output, state.place);
-    let direction = direction_of(state.direction);
+    let FlatConverter {
+        registers,
+        owners,
+        latest,
+        shifting,
+        ..
+    } = state;
     let transfer = Transfer {
-        direction,
+        direction: direction_of(state.direction),
         address: state.address,
         remaining: state.remaining,
     };
-    let phase = phase_of(state.phase, transfer);
     Converter {
         registers,
         owners,
         latest,
-        output,
+        output: output_of(state.output, state.place),
         continuous: state.continuous == ON,
         standby: state.standby == ON,
         converting: state.converting == ON,
         shifting,
-        phase,
+        phase: phase_of(state.phase, transfer),
+    }
+}
+
+// The state that the bytes stand for, or refusal 13.
+impl TryFrom<FlatConverter> for Converter {
+    type Error = Refusal;
+
+    ghost try_from_gives = { λ f r. r ≡ state_in f };
+
+    #[tactic(auto, unfolding(crate::specs::States::state_in))]
+    fn try_from(state: FlatConverter) -> Result<Converter, Refusal> {
+        if is_state(state) {
+            Ok(state_of(state))
+        } else {
+            Err(Refusal::InvalidState)
+        }
     }
 }

@@ -1,6 +1,4 @@
-// The codes. A flag is off or on.
-pub(crate) const OFF: u8 = 0;
-
+// The codes of the C header. A flag is off or on.
 pub const ON: u8 = 1;
 
 pub(crate) const EMPTY: u8 = 0;
@@ -12,7 +10,5 @@ pub(crate) const WAITING: u8 = 0;
 pub(crate) const HELD: u8 = 1;
 
 pub(crate) const COUNTING: u8 = 2;
-
-pub(crate) const READ: u8 = 0;
 
 pub(crate) const WRITE: u8 = 1;

@@ -1,44 +1,11 @@
 // From a state to its flat form.
 ghost use Rattle.std.specs.Prelude.{◌≡◌};
-ghost use Rattle.flat.specs.Flat.{flag_code, direction_code, output_code, place_of, phase_code, transfer_of, flat};
+ghost use Rattle.flat.specs.Flat.{phase_code, transfer_of, flat};
 
-use super::codes::{AT_PLACE, COUNTING, EMPTY, HELD, OFF, ON, READ, WAITING, WRITE};
+use super::codes::{COUNTING, HELD, WAITING};
 use crate::FlatConverter;
 use ads1299::Converter;
-use ads1299_serial::{Direction, Output, Phase, Transfer};
-
-pub fn flag_code(flag: bool) -> u8
-    ensures { result ≡ flag_code flag }
-{
-    if flag { ON } else { OFF }
-}
-
-fn direction_code(direction: Direction) -> u8
-    ensures { result ≡ direction_code direction }
-{
-    match direction {
-        Direction::Read => READ,
-        Direction::Write => WRITE,
-    }
-}
-
-fn output_code(output: Output) -> u8
-    ensures { result ≡ output_code output }
-{
-    match output {
-        Output::Empty => EMPTY,
-        Output::At(_) => AT_PLACE,
-    }
-}
-
-fn place_of(output: Output) -> u8
-    ensures { result ≡ place_of output }
-{
-    match output {
-        Output::Empty => 0,
-        Output::At(place) => place,
-    }
-}
+use ads1299_serial::{Direction, Phase, Transfer};
 
 fn phase_code(phase: Phase) -> u8
     ensures { result ≡ phase_code phase }
@@ -60,35 +27,30 @@ fn transfer_of(phase: Phase) -> Transfer
             address: 0,
             remaining: 0,
         },
-        Phase::Held(transfer) => transfer,
-        Phase::Counting(transfer) => transfer,
+        Phase::Held(transfer) | Phase::Counting(transfer) => transfer,
     }
 }
 
-pub fn flatten(converter: Converter) -> FlatConverter
-    ensures { result ≡ flat converter }
-{
-    let registers = converter.registers;
-    let owners = converter.owners;
-    let latest = converter.latest;
-    let shifting = converter.shifting;
-    let output = converter.output;
-    let phase = converter.phase;
-    let transfer = transfer_of(phase);
-    let direction = transfer.direction;
-    FlatConverter {
-        registers,
-        owners,
-        latest,
-        output: output_code(output),
-        place: place_of(output),
-        continuous: flag_code(converter.continuous),
-        standby: flag_code(converter.standby),
-        converting: flag_code(converter.converting),
-        shifting,
-        phase: phase_code(phase),
-        direction: direction_code(direction),
-        address: transfer.address,
-        remaining: transfer.remaining,
+impl From<Converter> for FlatConverter {
+    ghost from_gives = { λ converter f. f ≡ flat converter };
+
+    #[tactic(auto, unfolding(crate::specs::Flat::flat))]
+    fn from(converter: Converter) -> FlatConverter {
+        let transfer = transfer_of(converter.phase);
+        FlatConverter {
+            registers: converter.registers,
+            owners: converter.owners,
+            latest: converter.latest,
+            output: u8::from(converter.output.is_some()),
+            place: converter.output.unwrap_or(0),
+            continuous: u8::from(converter.continuous),
+            standby: u8::from(converter.standby),
+            converting: u8::from(converter.converting),
+            shifting: converter.shifting,
+            phase: phase_code(converter.phase),
+            direction: transfer.direction as u8,
+            address: transfer.address,
+            remaining: transfer.remaining,
+        }
     }
 }

@@ -7,7 +7,6 @@ mod forward;
 
 pub use back::{is_state, state_of};
 pub use codes::ON;
-pub use forward::{flag_code, flatten};
 
 // A converter's state as bytes, by value. output, phase and direction are codes, the flags 0 or 1 (codes.rt). Each state has one
 // flat form: what an empty output or a waiting converter does not use is 0. Other bytes stand for no state (refusal 13).

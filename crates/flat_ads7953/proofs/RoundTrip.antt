@@ -1,11 +1,13 @@
 -- The flat form and back, from either side.
 use Prim.Native.Nat.{ℕ, zero, suc}
 use mathlib.Core.Path.{◌≡◌, refl}
-use mathlib.Core.Bool.{true, ◌&&◌}
+use mathlib.Core.Bool.{Bool, true, false, ◌&&◌}
+use mir.Val.{bool_byte}
 use lib.Dec.{leb}
 use borrow.Author.Tests.{leb-true}
 use native.Mathlib.Omega.{arith}
 use Rattle.cases.proofs.Cases.{and_both}
+use Rattle.flat.specs.Flat.{flag_code}
 use Rattle.flat.specs.States.{is_flag}
 use Rattle.flat.proofs.RoundTrip.{flag_stands, flag_returns, flag_flat}
 use Rattle.ads7953.specs.declared.Mode.{Mode}
@@ -14,8 +16,13 @@ use Rattle.ads7953.specs.declared.Ads7953.{Ads7953}
 use Rattle.ads7953.specs.Modes.{mode_number}
 use Rattle.ads7953.specs.State.{state}
 use Rattle.flat_ads7953.specs.declared.FlatAds7953.{FlatAds7953}
-use Rattle.flat_ads7953.specs.Flat.{flat_part, are_flags, is_part, mode_of, part_of}
-use Rattle.flat_ads7953.specs.Claims.{RoundTrip}
+use Rattle.flat_ads7953.specs.Flat.{flat_part, are_flags, is_part, mode_of, part_of, part_in}
+use Rattle.flat_ads7953.specs.Claims.{RoundTrip, ComesBack}
+
+-- a flag as a number is its code
+pub flag_byte : (b : Bool) → bool_byte b ≡ flag_code b
+flag_byte true = refl
+flag_byte false = refl
 
 mode_stands : (m : Mode) → leb (mode_number m) 2 ≡ true
 mode_stands Manual = refl
@@ -64,3 +71,7 @@ returns_flat_lem f e =
 
 pub round_trip : RoundTrip
 round_trip = record { stands = stands; returns = returns; returns_flat = returns_flat_lem }
+
+pub comes_back : ComesBack
+unfolding part_in
+comes_back s = simp (stands s, returns s)

@@ -1,5 +1,7 @@
 -- The flat form of an ADS7953's state: numbers alone, for other languages; and the way back.
-use Rattle.std.specs.Prelude.{ℕ, Bool, cond, ◌&&◌, eqb, leb}
+use Rattle.std.specs.Prelude.{ℕ, Bool, cond, ◌&&◌, eqb, leb, Result, Ok, Err}
+use Rattle.refusal.specs.declared.Refusal.{Refusal}
+use Rattle.refusal.specs.declared.Refusal.TheVariants.{InvalidState}
 use Rattle.flat.specs.Codes.{on}
 use Rattle.flat.specs.Flat.{flag_code}
 use Rattle.flat.specs.States.{is_flag}
@@ -43,3 +45,7 @@ unfoldable pub part_of : FlatAds7953 → Ads7953
 part_of f =
     state (mode_of f.mode) f.channel f.ordered f.list f.last
     (eqb f.range2 on) (eqb f.reset on) (eqb f.programming on) (eqb f.first on)
+
+-- gives the state that a flat form stands for; where it stands for none, refusal 13
+unfoldable pub part_in : FlatAds7953 → Result Ads7953 Refusal
+part_in f = cond (is_part f) (Ok (part_of f)) (Err InvalidState)

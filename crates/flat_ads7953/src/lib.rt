@@ -2,15 +2,16 @@
 #![tactic(auto)]
 
 ghost use Rattle.std.specs.Prelude.{◌≡◌};
-ghost use Rattle.flat_ads7953.specs.Flat.{flat_part, are_flags, is_part, mode_of, part_of};
+ghost use Rattle.flat_ads7953.specs.Flat.{flat_part, is_part, mode_of, part_of, part_in};
 
 use ads7953::{Ads7953, Mode};
 use flat::ON;
+use refusal::Refusal;
 
-// The modes' numbers, as ads7953::mode_number gives them.
-const AUTO1: u8 = 1;
+// The modes' numbers.
+const AUTO1: u8 = Mode::Auto1 as u8;
 
-const AUTO2: u8 = 2;
+const AUTO2: u8 = Mode::Auto2 as u8;
 
 // A state as numbers, by value; the flags are 0 or 1, the mode its number. Each state has one flat form. Other bytes stand for no state
 // (refusal 13).
@@ -28,67 +29,54 @@ pub struct FlatAds7953 {
     pub first: u8,
 }
 
-pub fn flatten(part: Ads7953) -> FlatAds7953
-    ensures { result ≡ flat_part part }
-{
-    let mode = part.mode;
-    FlatAds7953 {
-        list: part.list,
-        mode: ads7953::mode_number(mode),
-        channel: part.channel,
-        ordered: part.ordered,
-        last: part.last,
-        range2: flat::flag_code(part.range2),
-        reset: flat::flag_code(part.reset),
-        programming: flat::flag_code(part.programming),
-        first: flat::flag_code(part.first),
-    }
-}
+impl From<Ads7953> for FlatAds7953 {
+    ghost from_gives = { λ part f. f ≡ flat_part part };
 
-fn are_flags(range2: u8, reset: u8, programming: u8, first: u8) -> bool
-    ensures { result ≡ are_flags range2 reset programming first }
-{
-    if range2 <= ON {
-        if reset <= ON {
-            if programming <= ON {
-                return first <= ON;
-            }
+    #[tactic(auto, using(crate::proofs::RoundTrip::flag_byte), unfolding(crate::specs::Flat::flat_part))]
+    fn from(part: Ads7953) -> FlatAds7953 {
+        FlatAds7953 {
+            list: part.list,
+            mode: u8::from(part.mode),
+            channel: part.channel,
+            ordered: part.ordered,
+            last: part.last,
+            range2: u8::from(part.range2),
+            reset: u8::from(part.reset),
+            programming: u8::from(part.programming),
+            first: u8::from(part.first),
         }
     }
-    false
 }
 
 // Whether the bytes stand for a state. Whether a part can be in that state is judged by each call.
-#[tactic(auto, unfolding(crate::specs::Flat::is_part))]
+#[tactic(auto, unfolding(crate::specs::Flat::is_part, crate::specs::Flat::are_flags))]
 pub fn is_part(part: FlatAds7953) -> bool
     ensures { result ≡ is_part part }
 {
-    if part.mode <= AUTO2 {
-        are_flags(part.range2, part.reset, part.programming, part.first)
-    } else {
-        false
-    }
+    part.mode <= AUTO2
+        && part.range2 <= ON
+        && part.reset <= ON
+        && part.programming <= ON
+        && part.first <= ON
 }
 
 fn mode_of(number: u8) -> Mode
     ensures { result ≡ mode_of number }
 {
-    if number == AUTO1 {
-        return Mode::Auto1;
+    match number {
+        AUTO1 => Mode::Auto1,
+        AUTO2 => Mode::Auto2,
+        _ => Mode::Manual,
     }
-    if number == AUTO2 {
-        return Mode::Auto2;
-    }
-    Mode::Manual
 }
 
-// The state that the bytes stand for; of no use where is_part says no.
+// The state that the bytes stand for; of no use where is_part says no. It stays beside TryFrom, as what could not fail still cannot.
+#[tactic(auto, unfolding(crate::specs::Flat::part_of))]
 pub fn part_of(part: FlatAds7953) -> Ads7953
     ensures { result ≡ part_of part }
 {
-    let mode = mode_of(part.mode);
     Ads7953 {
-        mode,
+        mode: mode_of(part.mode),
         channel: part.channel,
         ordered: part.ordered,
         list: part.list,
@@ -97,5 +85,21 @@ pub fn part_of(part: FlatAds7953) -> Ads7953
         reset: part.reset == ON,
         programming: part.programming == ON,
         first: part.first == ON,
+    }
+}
+
+// The state that the bytes stand for, or refusal 13.
+impl TryFrom<FlatAds7953> for Ads7953 {
+    type Error = Refusal;
+
+    ghost try_from_gives = { λ f answer. answer ≡ part_in f };
+
+    #[tactic(auto, unfolding(crate::specs::Flat::part_in))]
+    fn try_from(part: FlatAds7953) -> Result<Ads7953, Refusal> {
+        if is_part(part) {
+            Ok(part_of(part))
+        } else {
+            Err(Refusal::InvalidState)
+        }
     }
 }

@@ -1,6 +1,6 @@
 -- Converter by converter.
 use Prim.Native.Nat.{ℕ, ◌<◌}
-use mathlib.Core.Path.{◌≡◌, refl, ◌∙◌, ap}
+use mathlib.Core.Path.{◌≡◌, refl, sym, ◌∙◌, ap}
 use mathlib.Core.Bool.{true}
 use mathlib.Core.List.{List, [], ◌∷◌, map}
 use native.Mathlib.Omega.{arith}
@@ -15,8 +15,8 @@ use Rattle.bench.specs.declared.Bench.{Bench}
 use Rattle.bench.specs.Bench.{at}
 use Rattle.bench.proofs.Converters.{every_passes}
 use Rattle.flat_bench.specs.declared.FlatBench.{FlatBench}
-use Rattle.flat_bench.specs.Flat.{flat_at, flat_bench, is_bench, bench_of}
-use Rattle.flat_bench.specs.Claims.{RoundTrip}
+use Rattle.flat_bench.specs.Flat.{flat_at, flat_bench, is_bench, bench_of, bench_in}
+use Rattle.flat_bench.specs.Claims.{RoundTrip, ComesBack}
 
 -- a list of four is its elements by number
 pub by_number {ℓ} : {A : Type ℓ} (l : List A) (d : A) → length l ≡ converter_count → map (λ k. get_or l k d) converter_numbers ≡ l
@@ -26,6 +26,11 @@ by_number (a ∷ b ∷ []) d e = absurd (omega (arith, e))
 by_number (a ∷ b ∷ c ∷ []) d e = absurd (omega (arith, e))
 by_number (a ∷ b ∷ c ∷ x ∷ []) d e = refl
 by_number (a ∷ b ∷ c ∷ x ∷ y ∷ l) d e = absurd (omega (arith, e))
+
+-- a list of four whose elements are known by number
+pub four_are {ℓ} : {A : Type ℓ} (l : List A) (d : A) (f : ℕ → A) → length l ≡ converter_count → ((k : ℕ) → k < converter_count → get_or l k d ≡ f k)
+    → l ≡ map f converter_numbers
+four_are l d f e same = sym (by_number l d e) ∙ (λ i. same 0 (omega arith) i ∷ same 1 (omega arith) i ∷ same 2 (omega arith) i ∷ same 3 (omega arith) i ∷ [])
 
 stands : (b : Bench) → is_bench (flat_bench b) ≡ true
 unfolding is_bench flat_bench
@@ -47,3 +52,7 @@ returns_flat f size e =
 
 pub round_trip : RoundTrip
 round_trip = record { stands = stands; returns = returns; returns_flat = returns_flat }
+
+pub comes_back : ComesBack
+unfolding bench_in
+comes_back b size = simp (stands b, returns b size)

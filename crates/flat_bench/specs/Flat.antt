@@ -1,5 +1,7 @@
 -- The flat form of a bench: its converters' flat forms, in the order of their numbers.
-use Rattle.std.specs.Prelude.{ℕ, Bool, [], map, get_or}
+use Rattle.std.specs.Prelude.{ℕ, Bool, cond, [], map, get_or, Result, Ok, Err}
+use Rattle.refusal.specs.declared.Refusal.{Refusal}
+use Rattle.refusal.specs.declared.Refusal.TheVariants.{InvalidState}
 use Rattle.flat.specs.declared.FlatConverter.{FlatConverter}
 use Rattle.flat.specs.Flat.{flat}
 use Rattle.flat.specs.States.{is_state, state_of}
@@ -42,3 +44,7 @@ is_bench f = every_converter (λ k. is_state (flat_at f k))
 -- gives the bench that a flat form stands for; asked only where it stands for one
 unfoldable pub bench_of : FlatBench → Bench
 bench_of f = record { converters = map (λ k. state_of (flat_at f k)) converter_numbers }
+
+-- gives the bench that a flat form stands for; where it stands for none, refusal 13
+unfoldable pub bench_in : FlatBench → Result Bench Refusal
+bench_in f = cond (is_bench f) (Ok (bench_of f)) (Err InvalidState)

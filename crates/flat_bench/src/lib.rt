@@ -2,11 +2,13 @@
 #![tactic(auto)]
 
 ghost use Rattle.std.specs.Prelude.{◌≡◌};
-ghost use Rattle.flat_bench.specs.Flat.{is_bench, bench_of, flat_bench};
+ghost use Rattle.flat_bench.specs.Flat.{is_bench, bench_of, flat_bench, bench_in};
 
+use ads1299::Converter;
 use bench::Bench;
 use flat::FlatConverter;
 use lines::CONVERTERS;
+use refusal::Refusal;
 
 #[repr(C)]
 #[derive(Clone, Copy)]
@@ -18,40 +20,40 @@ pub struct FlatBench {
 pub fn is_bench(f: FlatBench) -> bool
     ensures { result ≡ is_bench f }
 {
-    let converters = f.converters;
-    if flat::is_state(converters[0]) {
-        if flat::is_state(converters[1]) {
-            if flat::is_state(converters[2]) {
-                return flat::is_state(converters[3]);
-            }
-        }
-    }
-    false
+    f.converters.iter().all(|state| flat::is_state(*state))
 }
 
-// The bench that a flat form stands for; asked only where it stands for one.
+// The bench that a flat form stands for; of no use where is_bench says no. It stays beside TryFrom, as what could not fail still cannot.
 pub fn bench_of(f: FlatBench) -> Bench
     ensures { result ≡ bench_of f }
 {
-    let converters = f.converters;
-    let first = flat::state_of(converters[0]);
-    let second = flat::state_of(converters[1]);
-    let third = flat::state_of(converters[2]);
-    let fourth = flat::state_of(converters[3]);
     Bench {
-        converters: [first, second, third, fourth],
+        converters: f.converters.map(|state| flat::state_of(state)),
     }
 }
 
-pub fn flatten(bench: Bench) -> FlatBench
-    ensures { result ≡ flat_bench bench }
-{
-    let converters = bench.converters;
-    let first = flat::flatten(converters[0]);
-    let second = flat::flatten(converters[1]);
-    let third = flat::flatten(converters[2]);
-    let fourth = flat::flatten(converters[3]);
-    FlatBench {
-        converters: [first, second, third, fourth],
+// The bench that a flat form stands for, or refusal 13.
+impl TryFrom<FlatBench> for Bench {
+    type Error = Refusal;
+
+    ghost try_from_gives = { λ f r. r ≡ bench_in f };
+
+    #[tactic(auto, unfolding(crate::specs::Flat::bench_in))]
+    fn try_from(f: FlatBench) -> Result<Bench, Refusal> {
+        if is_bench(f) {
+            Ok(bench_of(f))
+        } else {
+            Err(Refusal::InvalidState)
+        }
+    }
+}
+
+impl From<Bench> for FlatBench {
+    ghost from_gives = { λ bench f. f ≡ flat_bench bench };
+
+    fn from(bench: Bench) -> FlatBench {
+        FlatBench {
+            converters: bench.converters.map(FlatConverter::from),
+        }
     }
 }

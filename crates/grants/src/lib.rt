@@ -3,59 +3,57 @@
 
 ghost use Rattle.std.specs.Prelude.{◌≡◌, true};
 ghost use Rattle.parties.specs.Parties.{known_party};
+ghost use Rattle.refusal.specs.Refusals.{answer_number};
 ghost use Rattle.ads1299_registers.specs.Channels.{is_channel};
+ghost use Rattle.ads1299.specs.Answers.{moved_answer};
 ghost use Rattle.grants.specs.Grant.{grant_refusal, reassigned, granted};
 
-use ads1299::{Converter, Moved};
+use ads1299::Converter;
+use refusal::Refusal;
 
 // The tests in the order of document 01: the channel before the caller's right.
-fn refuse_grant(converter: Converter, caller: u32, receiver: u32, channel: u32) -> u8
-    ensures { result ≡ grant_refusal converter caller receiver channel }
+fn judge_grant(
+    converter: Converter,
+    caller: u32,
+    receiver: u32,
+    channel: u32,
+) -> Result<(), Refusal>
+    ensures { answer_number result ≡ grant_refusal converter caller receiver channel }
 {
     let valid = converter.is_valid();
     let caller_known = parties::is_known(caller);
     let receiver_known = parties::is_known(receiver);
     let there = ads1299_registers::is_channel(channel);
     let admin = parties::is_admin(caller);
-    let numbers = [
-        refusal::when(!valid, refusal::INVALID_STATE),
-        refusal::when(!caller_known, refusal::UNKNOWN_PARTY),
-        refusal::when(!receiver_known, refusal::UNKNOWN_PARTY),
-        refusal::when(!there, refusal::WRONG_CHANNEL),
-        refusal::when(!admin, refusal::NOT_OWNER),
+    let tests = [
+        refusal::when(!valid, Refusal::InvalidState),
+        refusal::when(!caller_known, Refusal::UnknownParty),
+        refusal::when(!receiver_known, Refusal::UnknownParty),
+        refusal::when(!there, Refusal::WrongChannel),
+        refusal::when(!admin, Refusal::NotOwner),
     ];
-    refusal::first_of(&numbers)
+    refusal::first_of(&tests)
 }
 
 // The state with one owner entry changed.
-fn reassign(converter: Converter, channel: u32, receiver: u32) -> Converter
+#[tactic(auto, using(parties::proofs::Bounds::party_bound), unfolding(crate::specs::Grant::reassigned))]
+fn reassign(mut converter: Converter, channel: u32, receiver: u32) -> Converter
     requires { (is_channel channel ≡ true) × (known_party receiver ≡ true) }
     ensures { result ≡ reassigned converter channel receiver }
 {
-    let mut owners = converter.owners;
-    let at = (channel - 1) as usize;
-    owners[at] = receiver as u8;
-    Converter {
-        owners,
-        ..converter
-    }
+    converter.owners[channel as usize - 1] = receiver as u8;
+    converter
 }
 
 // Gives a channel to a party. Only the administrator may, and it may whatever the converter is doing.
-pub fn grant(converter: Converter, caller: u32, receiver: u32, channel: u32) -> Moved
-    ensures { result ≡ granted converter caller receiver channel }
+pub fn grant(
+    converter: Converter,
+    caller: u32,
+    receiver: u32,
+    channel: u32,
+) -> Result<Converter, Refusal>
+    ensures { moved_answer converter result ≡ granted converter caller receiver channel }
 {
-    let number = refuse_grant(converter, caller, receiver, channel);
-    if number == refusal::NONE {
-        let next = reassign(converter, channel, receiver);
-        Moved {
-            refusal: refusal::NONE,
-            next,
-        }
-    } else {
-        Moved {
-            refusal: number,
-            next: converter,
-        }
-    }
+    judge_grant(converter, caller, receiver, channel)?;
+    Ok(reassign(converter, channel, receiver))
 }

@@ -1,11 +1,11 @@
 -- Every list of requests follows the reference model: by induction on the list, with Held as its invariant.
+use Rattle.std.specs.Prelude.{None}
 use Prim.Native.Nat.{ℕ}
 use mathlib.Core.Path.{◌≡◌, refl, ◌∙◌}
 use mathlib.Core.Bool.{Bool, cond, ◌||◌}
 use mathlib.Core.List.{List, [], ◌∷◌, flatten}
 use Rattle.cases.proofs.Cases.{split}
 use Rattle.refusal.specs.First.{accepted}
-use Rattle.ads1299_serial.specs.declared.Output.TheVariants.{Empty}
 use Rattle.ads1299.specs.declared.Converter.{Converter}
 use Rattle.ads1299.specs.State.{with_registers, with_output}
 use Rattle.ads1299.specs.Formed.{Formed}
@@ -33,13 +33,13 @@ numbers_are (x ∷ l) s t c k = rw (number_is t x, refusal_is s t c k x, numbers
 
 -- the output
 pub rest_next : (s : Converter) (x : Submission) (l : List ℕ) (b : Bool)
-    → with_output (with_registers (next s x) l) (cond b Empty (next s x).output)
-    ≡ with_output (with_registers s l) (cond (accepted (refusal_of s x) || b) Empty s.output)
+    → with_output (with_registers (next s x) l) (cond b None (next s x).output)
+    ≡ with_output (with_registers s l) (cond (accepted (refusal_of s x) || b) None s.output)
 unfolding planned changed
 rest_next s x l b = split (accepted (refusal_of s x)) (λ e. split b (λ q. rw (e, q, next)) (λ q. rw (e, q, next))) (λ e. rw (e, next))
 
 all_else : (l : List Submission) (s : Converter)
-    → end s l ≡ with_output (with_registers s (end s l).registers) (cond (touched (numbers s l)) Empty s.output)
+    → end s l ≡ with_output (with_registers s (end s l).registers) (cond (touched (numbers s l)) None s.output)
 unfolding end numbers touched
 all_else [] s = refl
 all_else (x ∷ l) s = rw (number_is s x) (all_else l (next s x) ∙ rest_next s x (end (next s x) l).registers (touched (numbers (next s x) l)))

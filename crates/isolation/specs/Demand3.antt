@@ -9,9 +9,8 @@
 --   2. Mix the parties' lists in two ways. Each request gets the same number both times; both end in the same state; and each
 --      field has the last value that its owner was granted, or its first. Each request gets the same plan too, but that a register
 --      written whole carries the neighbours' bits as they stand just then, so that these bits may differ.
-use Rattle.std.specs.Prelude.{ℕ, ◌≡◌, true, cond}
+use Rattle.std.specs.Prelude.{ℕ, ◌≡◌, true, cond, None}
 use mathlib.Core.List.{List, flatten}
-use Rattle.ads1299_serial.specs.declared.Output.TheVariants.{Empty}
 use Rattle.ads1299.specs.declared.Converter.{Converter}
 use Rattle.ads1299.specs.State.{with_registers, with_output}
 use Rattle.ads1299.specs.Formed.{Formed}
@@ -33,7 +32,7 @@ pub record FollowsReference (s : Converter) (l : List Submission) : Type 0 where
   pub reference_numbers_lem : numbers s l ≡ reference_numbers s l
   pub fields : (f n : ℕ) → named f n ≡ true → field_of (end s l).registers f n ≡ reference_cells s l f n
   pub free_bits : (r i : ℕ) → Free r i → read_at (end s l).registers (bit_at r i) ≡ read_at s.registers (bit_at r i)
-  pub all_else : end s l ≡ with_output (with_registers s (end s l).registers) (cond (touched (numbers s l)) Empty s.output)
+  pub all_else : end s l ≡ with_output (with_registers s (end s l).registers) (cond (touched (numbers s l)) None s.output)
   pub formed : Formed (end s l)
   pub sent : after s (flatten (plans s l)) ≡ end s l
 

@@ -13,7 +13,9 @@ const LAST_CHANNEL: u32 = (CONVERTERS * ads1299_registers::CHANNELS) as u32;
 // The last number that names a converter as a whole.
 const LAST_NUMBER: u32 = LAST_CHANNEL + CONVERTERS as u32 - 1;
 
-// What stands for the converter where a number names none: any of the four, since the channel is then refused.
+// What stands for the converter where a number names none: any of the four, since the channel is then refused. It and NO_CHANNEL are no
+// Options: document 02's mapping gives these numbers (definitions converter_of and local_channel of specs/Lines.antt, theorem
+// bench_planner.Refusals.RefusalsAsWorded).
 const NO_CONVERTER: u32 = 0;
 
 // A channel that no converter has.
@@ -27,44 +29,32 @@ pub fn is_converter(number: u32) -> bool
 }
 
 // The number of the converter that a channel's number names; 0 where it names none.
+#[tactic(auto, unfolding(crate::specs::Lines::converter_of))]
 pub fn converter_of(channel: u32) -> u32
     ensures { result ≡ converter_of channel }
 {
-    if channel <= LAST_CHANNEL {
-        if channel == 0 {
-            0
-        } else {
-            (channel - 1) / ads1299_registers::CHANNELS as u32
-        }
-    } else {
-        if channel <= LAST_NUMBER {
-            channel - LAST_CHANNEL
-        } else {
-            NO_CONVERTER
-        }
+    match channel {
+        ..=LAST_CHANNEL => channel.saturating_sub(1) / ads1299_registers::CHANNELS as u32,
+        ..=LAST_NUMBER => channel - LAST_CHANNEL,
+        _ => NO_CONVERTER,
     }
 }
 
 // The channel as that converter counts it.
+#[tactic(auto, unfolding(crate::specs::Lines::local_channel))]
 pub fn local_channel(channel: u32) -> u32
     ensures { result ≡ local_channel channel }
 {
-    if channel <= LAST_CHANNEL {
-        if channel == 0 {
-            0
-        } else {
-            (channel - 1) % ads1299_registers::CHANNELS as u32 + 1
-        }
-    } else {
-        if channel <= LAST_NUMBER {
-            0
-        } else {
-            NO_CHANNEL
-        }
+    match channel {
+        0 => 0,
+        ..=LAST_CHANNEL => (channel - 1) % ads1299_registers::CHANNELS as u32 + 1,
+        ..=LAST_NUMBER => 0,
+        _ => NO_CHANNEL,
     }
 }
 
 // The channel as the converter of this number counts it; where it is another's, a channel that no converter has.
+#[tactic(auto, unfolding(crate::specs::Lines::channel_on))]
 pub fn channel_on(number: u32, channel: u32) -> u32
     ensures { result ≡ channel_on number channel }
 {

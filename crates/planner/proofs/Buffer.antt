@@ -1,10 +1,11 @@
 -- A plan in the transmit buffer, put there piece by piece.
+use Rattle.std.specs.Prelude.{Ok, Err}
 use Prim.Native.Nat.{ℕ, ◌+◌, ◌-◌, ◌≤◌}
 use mathlib.Core.Path.{◌≡◌, ◌∙◌, ap}
 use mathlib.Core.Bool.{true, false}
 use mathlib.Core.List.{List, ◌++◌}
 use native.Mathlib.Omega.{arith}
-use borrow.Author.Tests.{eq-eqb, ne_eqb}
+use borrow.Author.Tests.{eq-eqb}
 use borrow.Rule.Slice.PartMut.{put_mid}
 use lib.ListN.{length, take, drop, length-append, length-drop}
 use lib.Seq.{take_all}
@@ -12,8 +13,11 @@ use Rattle.splice.specs.Splice.{spliced}
 use Rattle.splice.proofs.Splice.{splices_join, fitting_laid, part_spliced}
 use Rattle.refusal.specs.Numbers.{none}
 use Rattle.refusal.specs.First.{accepted}
+use Rattle.refusal.specs.declared.Refusal.{Refusal}
+use Rattle.refusal.specs.Refusals.{number_of}
+use Rattle.refusal.proofs.Laws.{refused_lem}
 use Rattle.ads1299.specs.declared.Converter.{Converter}
-use Rattle.planner.specs.declared.Planned.{Planned}
+use Rattle.planner.specs.Answers.{plan_answer}
 use Rattle.planner.specs.Submission.{Submission, room_at}
 use Rattle.planner.specs.Plan.{plan_writing, plan_of, plan_length}
 use Rattle.planner.specs.Planned.{refusal_of, changed, planned}
@@ -48,11 +52,10 @@ module _ {tx : List ℕ} {at : ℕ} {first one : List ℕ} {next : ℕ} (p : Put
       }
 
 module _ (s : Converter) (x : Submission) (tx : List ℕ) (at : ℕ) where
-  pub refused : (n : ℕ) → n ≡ refusal_of s x → (n ≡ none → ⊥)
-      → (◌≡◌ {A = Planned} (record { refusal = n; length = 0; next = s }) (planned s x)) × (tx ≡ tx_after s x tx at)
+  pub refused : (r : Refusal) → number_of r ≡ refusal_of s x → (plan_answer s (Err r) ≡ planned s x) × (tx ≡ tx_after s x tx at)
   unfolding planned tx_after
-  refused n e ne =
-      let f : accepted (refusal_of s x) ≡ false = ne_eqb _ _ (λ z. ne (e ∙ z)) in
+  refused r e =
+      let f : accepted (refusal_of s x) ≡ false = rw e at (refused_lem r) in
       (rw (f, e), rw f)
 
   module _ (in_tx : x.room ≡ room_at tx at) (z : refusal_of s x ≡ none) where
@@ -76,7 +79,7 @@ module _ (s : Converter) (x : Submission) (tx : List ℕ) (at : ℕ) where
 
     pub planned_in : (n : ℕ) (t : Converter) (part : List ℕ) → n ≡ plan_length s x.request → t ≡ changed s x.request
         → part ≡ spliced (take (length tx - at) (drop at tx)) 0 (plan_writing t x.request t.registers)
-        → (◌≡◌ {A = Planned} (record { refusal = none; length = n; next = t }) (planned s x)) × (put_mid at (length tx - at) tx part ≡ tx_after s x tx at)
+        → (plan_answer s (Ok (record { length = n; next = t })) ≡ planned s x) × (put_mid at (length tx - at) tx part ≡ tx_after s x tx at)
     unfolding planned tx_after plan_of plan_writing changed
     planned_in n t part en et ep =
         let f : accepted (refusal_of s x) ≡ true = eq-eqb _ _ z in (

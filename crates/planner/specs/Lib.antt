@@ -3,6 +3,7 @@ pub mod Settings
 pub mod Runs
 pub mod Plan
 pub mod Refusals
+pub mod Answers
 pub mod Planned
 pub mod Buffer
 pub mod Lengths

@@ -1,13 +1,12 @@
 -- What a setting request is answered, by the room that it has.
-use Rattle.std.specs.Prelude.{ℕ, cond, List, []}
+use Rattle.std.specs.Prelude.{ℕ, cond, List, [], None}
 use Rattle.refusal.specs.Numbers.{none}
 use Rattle.refusal.specs.First.{accepted}
 use Rattle.request.specs.declared.Request.{Request}
-use Rattle.ads1299_serial.specs.declared.Output.TheVariants.{Empty}
 use Rattle.ads1299.specs.declared.Converter.{Converter}
 use Rattle.ads1299.specs.State.{with_registers, with_output}
 use Rattle.ads1299_settings.specs.Registers.{field_of}
-use Rattle.planner.specs.declared.Planned.{Planned}
+use Rattle.planner.specs.Answers.{Planned}
 use Rattle.planner.specs.Submission.{Submission}
 use Rattle.planner.specs.Plan.{registers_after, plan_of, plan_length}
 use Rattle.planner.specs.Refusals.{judged}
@@ -18,7 +17,7 @@ refusal_of s x = judged s (field_of s.registers) x
 
 -- gives the state with the settings made and nothing pending, all else as it is
 unfoldable pub changed : Converter → Request → Converter
-changed s r = with_output (with_registers s (registers_after s.registers r)) Empty
+changed s r = with_output (with_registers s (registers_after s.registers r)) None
 
 -- gives the request's plan, or no bytes where it is refused
 unfoldable pub plan : Converter → Submission → List ℕ

@@ -25,12 +25,8 @@ pub(crate) fn are_legal(request: Request) -> bool
     ensures { result ≡ all_legal (settings request) }
 {
     let count = request::count_values(request.field);
-    let values = request.values;
-    let mut i = 0;
-    while i < count {
-        if ads1299_fields::is_legal(field_at(request, i), values[i]) {
-            i += 1;
-        } else {
+    for i in 0..count {
+        if !ads1299_fields::is_legal(field_at(request, i), request.values[i]) {
             return false;
         }
     }
@@ -42,14 +38,11 @@ pub(crate) fn set_all(registers: [u8; COUNT], request: Request) -> [u8; COUNT]
     ensures { result ≡ registers_after registers request }
 {
     let count = request::count_values(request.field);
-    let values = request.values;
     let mut after = registers;
-    let mut done = 0;
-    while done < count {
+    for done in 0..count {
         let field = field_at(request, done);
-        let set = ads1299_settings::write(after, field, request.channel, values[done]);
+        let set = ads1299_settings::write(after, field, request.channel, request.values[done]);
         after = set;
-        done += 1;
     }
     after
 }

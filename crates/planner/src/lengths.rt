@@ -1,6 +1,5 @@
-// How many bytes a plan needs, and has.
+// How many bytes a plan needs.
 ghost use Rattle.std.specs.Prelude.{◌≡◌, ◌+◌, length};
-ghost use Rattle.planner.specs.Submission.{room_at};
 ghost use Rattle.planner.specs.Runs.{runs, runs_length};
 ghost use Rattle.planner.specs.Plan.{entering, leaving, plan_length};
 
@@ -18,14 +17,11 @@ const CHANNEL_BYTES: usize = FIELD_BYTES + 2 + 5;
 fn count_modes(standby: bool, continuous: bool) -> usize
     ensures { result ≡ length (entering standby continuous) + length (leaving standby continuous) }
 {
-    if standby {
-        if continuous { 4 } else { 2 }
-    } else {
-        if continuous { 2 } else { 0 }
-    }
+    2 * (standby as usize + continuous as usize)
 }
 
 // How many bytes write the request's registers.
+#[tactic(auto, unfolding(crate::specs::Runs::runs_length))]
 fn count_written(request: Request) -> usize
     ensures { result ≡ runs_length (runs request) }
 {
@@ -37,15 +33,9 @@ fn count_written(request: Request) -> usize
 }
 
 // A plan's length depends on the modes and the field alone.
+#[tactic(auto, using(crate::proofs::Length::few_modes, crate::proofs::Length::few_runs))]
 pub(crate) fn plan_length(c: Converter, request: Request) -> usize
     ensures { result ≡ plan_length c request }
 {
     count_modes(c.standby, c.continuous) + count_written(request)
-}
-
-// The bytes from a place on, counted without a sum that could wrap.
-pub(crate) fn count_room(tx: &[u8], at: usize) -> usize
-    ensures { result ≡ room_at tx.now at }
-{
-    if tx.len() < at { 0 } else { tx.len() - at }
 }

@@ -6,6 +6,7 @@ mod lengths;
 
 ghost use Rattle.std.specs.Prelude.{true, ◌≡◌, ◌+◌, ◌<◌, ◌≤◌, eqb, length};
 ghost use Rattle.splice.specs.Splice.{spliced};
+ghost use Rattle.refusal.specs.Refusals.{answer_number};
 ghost use Rattle.ads1299_registers.specs.Addresses.{register_count};
 ghost use Rattle.ads1299_fields.specs.Names.{takes_channel};
 ghost use Rattle.ads1299.specs.Formed.{Formed};
@@ -15,14 +16,15 @@ ghost use Rattle.planner.specs.Plan.{only, plan_writing, plan_length};
 ghost use Rattle.planner.specs.Refusals.{field_owner};
 ghost use Rattle.planner.specs.Planned.{refusal_of, changed, planned};
 ghost use Rattle.planner.specs.Buffer.{tx_after};
+ghost use Rattle.planner.specs.Answers.{plan_answer};
 
 use ads1299::Converter;
 use ads1299_commands::{RDATAC, SDATAC, STANDBY, WAKEUP, WREG};
 use ads1299_fields::WHOLE_CHANNEL;
 use ads1299_registers::{BIAS_SENSP, CH1SET, COUNT, LOFF_FLIP};
-use ads1299_serial::Output;
 use fields::{are_legal, set_all};
-use lengths::{count_room, plan_length};
+use lengths::plan_length;
+use refusal::Refusal;
 use request::Request;
 
 // The most bytes of a plan.
@@ -30,13 +32,13 @@ pub const LONGEST: usize = 14;
 
 // The plan's length and the state after the plan, whose bytes are not to be fed to that state again.
 #[derive(Clone, Copy)]
-pub struct Planned {
-    pub refusal: u8,
+pub struct ConverterPlan {
     pub length: usize,
     pub next: Converter,
 }
 
 // The owner of a channel field is the channel's, that of a shared field the administrator.
+#[tactic(auto, unfolding(parties::specs::Parties::is_admin, parties::specs::Owners::owns))]
 fn is_field_owner(
     owners: [u8; ads1299_registers::CHANNELS],
     party: u32,
@@ -53,30 +55,29 @@ fn is_field_owner(
 }
 
 // The tests in the order of document 01: the owner before the value, so that a stranger does not learn what is legal.
-fn refuse(c: Converter, party: u32, request: Request, room: usize) -> u8
-    ensures { result ≡ refusal_of c (record { party = party; request = request; room = room }) }
+fn judge(c: Converter, party: u32, request: Request, room: usize) -> Result<(), Refusal>
+    ensures judged { answer_number result ≡ refusal_of c (record { party = party; request = request; room = room }) }
+    ensures formed { Formed c }
 {
-    let owners = c.owners;
-    let phase = c.phase;
     let valid = c.is_valid();
     let known = parties::is_known(party);
     let field = ads1299_fields::is_known_field(request.field);
     let channel = ads1299_fields::takes_channel(request.field, request.channel);
-    let owner = is_field_owner(owners, party, request.field, request.channel);
+    let owner = is_field_owner(c.owners, party, request.field, request.channel);
     let legal = are_legal(request);
-    let waiting = ads1299_serial::is_waiting(phase);
+    let waiting = ads1299_serial::is_waiting(c.phase);
     let needed = plan_length(c, request);
-    let numbers = [
-        refusal::when(!valid, refusal::INVALID_STATE),
-        refusal::when(!known, refusal::UNKNOWN_PARTY),
-        refusal::when(!field, refusal::UNKNOWN_FIELD),
-        refusal::when(!channel, refusal::WRONG_CHANNEL),
-        refusal::when(!owner, refusal::NOT_OWNER),
-        refusal::when(!legal, refusal::BAD_VALUE),
-        refusal::when(!waiting, refusal::NOT_WAITING),
-        refusal::when(room < needed, refusal::NO_ROOM),
+    let tests = [
+        refusal::when(!valid, Refusal::InvalidState),
+        refusal::when(!known, Refusal::UnknownParty),
+        refusal::when(!field, Refusal::UnknownField),
+        refusal::when(!channel, Refusal::WrongChannel),
+        refusal::when(!owner, Refusal::NotOwner),
+        refusal::when(!legal, Refusal::BadValue),
+        refusal::when(!waiting, Refusal::NotWaiting),
+        refusal::when(room < needed, Refusal::NoRoom),
     ];
-    refusal::first_of(&numbers)
+    refusal::first_of(&tests)
 }
 
 // Writes bytes from a place on, and gives the place after them.
@@ -145,48 +146,40 @@ fn write_plan(part: &mut [u8], c: Converter, request: Request)
     requires { (takes_channel request.field request.channel ≡ true) × (plan_length c request ≤ length part.old) }
     ensures { part.new ≡ spliced part.old 0 (plan_writing c request c.registers) }
 {
-    let registers = c.registers;
     let awake = put_only(part, 0, c.standby, WAKEUP);
     let stopped = put_only(part, awake, c.continuous, SDATAC);
-    let written = put_runs(part, stopped, registers, request);
+    let written = put_runs(part, stopped, c.registers, request);
     let started = put_only(part, written, c.continuous, RDATAC);
     put_only(part, started, c.standby, STANDBY);
 }
 
 // The state after the plan, without a byte sent: the settings made, and what was pending lost.
+#[tactic(auto, unfolding(crate::specs::Planned::changed))]
 fn change(c: Converter, request: Request) -> Converter
     ensures { result ≡ changed c request }
 {
-    let before = c.registers;
-    let registers = set_all(before, request);
     Converter {
-        registers,
-        output: Output::Empty,
+        registers: set_all(c.registers, request),
+        output: None,
         ..c
     }
 }
 
 // Plans a request: the plan goes into the transmit buffer (document 01: sheet) from a place on, and all else there stays.
-pub fn plan(c: Converter, party: u32, request: Request, tx: &mut [u8], at: usize) -> Planned
-    ensures planned { (result ≡ planned c (submission party request tx.old at))
+pub fn plan(
+    c: Converter,
+    party: u32,
+    request: Request,
+    tx: &mut [u8],
+    at: usize,
+) -> Result<ConverterPlan, Refusal>
+    ensures planned { (plan_answer c result ≡ planned c (submission party request tx.old at))
         × (tx.new ≡ tx_after c (submission party request tx.old at) tx.old at) }
     ensures formed { Formed c }
 {
-    let number = refuse(c, party, request, count_room(tx, at));
-    if number == refusal::NONE {
-        let length = plan_length(c, request);
-        let next = change(c, request);
-        write_plan(&mut tx[at..], next, request);
-        Planned {
-            refusal: refusal::NONE,
-            length,
-            next,
-        }
-    } else {
-        Planned {
-            refusal: number,
-            length: 0,
-            next: c,
-        }
-    }
+    judge(c, party, request, splice::count_room(tx, at))?;
+    let length = plan_length(c, request);
+    let next = change(c, request);
+    write_plan(&mut tx[at..], next, request);
+    Ok(ConverterPlan { length, next })
 }

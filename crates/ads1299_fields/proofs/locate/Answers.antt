@@ -1,56 +1,40 @@
-use Prim.Native.Nat.{ℕ, ◌+◌, ◌*◌, ◌≤◌, ◌<◌}
+use Prim.Native.Nat.{ℕ, ◌+◌, ◌*◌, ◌-◌, ◌≤◌, ◌<◌}
 use Rattle.ads1299_registers.specs.Addresses.{register_count}
 use Rattle.ads1299_fields.proofs.Apart.{place_inside}
-use Rattle.ads1299_fields.specs.Names.{named}
+use Rattle.ads1299_fields.proofs.Rows.{Known, known, unknown}
+use Rattle.ads1299_fields.specs.Names.{takes_channel, named}
 use Rattle.ads1299_fields.specs.Places.{place}
 use Rattle.ads1299_fields.specs.declared.Entry.{Entry}
 use mathlib.Core.Bool.{true}
 use mathlib.Core.Path.{◌≡◌, sym, ◌∙◌}
-use native.Mathlib.Omega.{arith}
 use Rattle.ads1299_fields.proofs.locate.Goals as goal
-use Rattle.ads1299_fields.proofs.locate.Goals.{After-count_steps-steps}
 
 -- the sums stay within the registers and within a byte
-record Bounds (e : Entry) (steps : ℕ) : Type 0 where
-  register : e.0 + e.1 * steps < register_count
-  byte : e.4 + (e.2 + e.3 * steps) ≤ 8
+inside : (f n : ℕ) (e : Entry) → Known f e → takes_channel f n ≡ true
+    → (e.register + e.register_step * (n - 1) < register_count) × (e.width + (e.bit + e.bit_step * (n - 1)) ≤ 8)
+unfolding place named
+inside f n e k t =
+    let h : named f n ≡ true = simp (k.field, t) in
+    let i = place_inside f n h in
+    rw k.same (rw h at i.in_list, rw h at i.in_byte)
 
-bounds : (c : After-count_steps-steps) → Bounds c.look_up-register.result c.count_steps-steps.result
-unfolding place
-bounds c =
-    let a = c.args in
-    let h : named a.field a.channel ≡ true = sym c.is_named.ensures ∙ c.if-is_named.true in
-    let i = place_inside a.field a.channel h in
-    rw (c.look_up-register.ensures, c.count_steps-steps.ensures) (record { register = rw h at i.in_list; byte = rw h at i.in_byte })
+pub returns-in_default : goal.returns-in_default
+unfolding place named
+returns-in_default c = simp (unknown c.args.field _ c.look_up.ensures c.in_default.is)
 
-pub overflow_mul-result : goal.overflow_mul-result
-unfolding place
-overflow_mul-result c = let b = bounds c in omega arith
+pub place-requires : goal.place-requires
+place-requires c =
+    let r = known c.args.field _ _ c.look_up.ensures c.in-Some.is in
+    rw c.saturating_sub.ensures (inside c.args.field c.args.channel _ r (sym c.takes_channel.ensures ∙ c.if-takes_channel.true))
 
-pub overflow_add-result : goal.overflow_add-result
-unfolding place
-overflow_add-result c = let b = bounds c in omega arith
+pub returns-then-takes_channel : goal.returns-then-takes_channel
+unfolding place named
+returns-then-takes_channel c =
+    let r = known c.args.field _ _ c.look_up.ensures c.in-Some.is in
+    simp (r.field, ← c.takes_channel.ensures, c.if-takes_channel.true, c.place.ensures, r.same, c.saturating_sub.ensures)
 
-pub overflow_cast-result : goal.overflow_cast-result
-unfolding place
-overflow_cast-result c = let b = bounds c in omega arith
-
-pub overflow_mul-result-then-is_named : goal.overflow_mul-result-then-is_named
-unfolding place
-overflow_mul-result-then-is_named c = let b = bounds c in omega arith
-
-pub overflow_add-result-then-is_named : goal.overflow_add-result-then-is_named
-unfolding place
-overflow_add-result-then-is_named c = let b = bounds c in omega arith
-
-pub overflow_cast-result-then-is_named : goal.overflow_cast-result-then-is_named
-unfolding place
-overflow_cast-result-then-is_named c = let b = bounds c in omega arith
-
-pub returns-then-is_named : goal.returns-then-is_named
-unfolding place
-returns-then-is_named c = simp (← c.is_named.ensures, c.if-is_named.true, c.look_up-register.ensures, c.count_steps-steps.ensures)
-
-pub returns-else-is_named : goal.returns-else-is_named
-unfolding place
-returns-else-is_named c = simp (← c.is_named.ensures, c.if-is_named.false)
+pub returns-else-takes_channel : goal.returns-else-takes_channel
+unfolding place named
+returns-else-takes_channel c =
+    let r = known c.args.field _ _ c.look_up.ensures c.in-Some.is in
+    simp (r.field, ← c.takes_channel.ensures, c.if-takes_channel.false)

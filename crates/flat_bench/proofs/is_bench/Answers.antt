@@ -1,19 +1,14 @@
-use Rattle.flat_bench.specs.Flat.{is_bench}
-use Rattle.cases.proofs.Cases.{and_true}
+use Rattle.std.proofs.Common.{ap, sym, ◌∙◌, rules}
+use Rattle.std.specs.List.{list_all}
+use Rattle.std.proofs.lemmas.Iterator.{YieldsList-from_slice}
+use Rattle.std.proofs.lemmas.Iterator.Search.{all_from_yields_List}
+use Rattle.flat.specs.States.{is_state}
+use Rattle.flat_bench.specs.Flat.{blank_flat, is_bench}
+use Rattle.flat_bench.proofs.RoundTrip.{by_number}
 use Rattle.flat_bench.proofs.is_bench.Goals as goal
 
-pub returns-then-is_state-3 : goal.returns-then-is_state-3
+pub returns : goal.returns
 unfolding is_bench
-returns-then-is_state-3 c = simp (← c.is_state-then-is_state-3.ensures, and_true c.is_state-then-is_state-3.result, ← c.is_state-then-is_state-2.ensures, c.if-is_state-3.true, ← c.is_state-then-is_state.ensures, c.if-is_state-2.true, ← c.is_state.ensures, c.if-is_state.true)
-
-pub returns-else-is_state-3 : goal.returns-else-is_state-3
-unfolding is_bench
-returns-else-is_state-3 c = simp (← c.is_state.ensures, c.if-is_state.true, ← c.is_state-then-is_state.ensures, c.if-is_state-2.true, ← c.is_state-then-is_state-2.ensures, c.if-is_state-3.false)
-
-pub returns-else-is_state-2 : goal.returns-else-is_state-2
-unfolding is_bench
-returns-else-is_state-2 c = simp (← c.is_state.ensures, c.if-is_state.true, ← c.is_state-then-is_state.ensures, c.if-is_state-2.false)
-
-pub returns-else-is_state : goal.returns-else-is_state
-unfolding is_bench
-returns-else-is_state c = simp (← c.is_state.ensures, c.if-is_state.false)
+returns c =
+    all_from_yields_List is_state _ _ _ c.all.ensures.ran (YieldsList-from_slice c.args.f.converters cc) (λ x b q k. search rules)
+    ∙ ap (list_all is_state) (sym (by_number c.args.f.converters blank_flat (search rules)))

@@ -1,18 +1,19 @@
 use Rattle.std.proofs.Common.{rules}
+use Rattle.std.proofs.lemmas.Result.{err_from_is_err_and}
+use Rattle.refusal.proofs.Laws.{refused_lem}
 use Rattle.grants.proofs.Accepted.{grantable}
 use Rattle.grants.specs.Grant.{granted}
-use borrow.Author.Tests.{eq-eqb, ne_eqb}
-use mathlib.Core.Path.{sym, ◌∙◌}
+use mathlib.Core.Path.{sym}
 use Rattle.grants.proofs.grant.Goals as goal
 
-pub reassign-next-requires : goal.reassign-next-requires
-unfolding granted
-reassign-next-requires c = let ok = grantable _ _ _ _ (sym c.refuse_grant-number.ensures ∙ c.if-number-eq-NONE.true) in search rules
+pub reassign-requires : goal.reassign-requires
+reassign-requires c = let ok = grantable _ _ _ _ (sym c.in_ok-judge_grant.ensures) in search rules
 
-pub returns-then-number-eq-NONE : goal.returns-then-number-eq-NONE
+pub returns : goal.returns
 unfolding granted
-returns-then-number-eq-NONE c = simp (← c.refuse_grant-number.ensures, eq-eqb _ _ c.if-number-eq-NONE.true, ← c.reassign-next.ensures)
+returns c = simp (← c.in_ok-judge_grant.ensures, ← c.reassign.ensures)
 
-pub returns-else-number-eq-NONE : goal.returns-else-number-eq-NONE
+pub returns-in_err-judge_grant : goal.returns-in_err-judge_grant
 unfolding granted
-returns-else-number-eq-NONE c = simp (← c.refuse_grant-number.ensures, ne_eqb _ _ c.if-number-eq-NONE.false)
+returns-in_err-judge_grant c = let p = err_from_is_err_and c.from_residual.result c.from_residual.ensures.1 in
+    rw (p.1, p.2) (simp (← c.in_err-judge_grant.ensures, refused_lem c.in_err-judge_grant.field-0.0))

@@ -1,47 +1,39 @@
 -- The part that was lent comes back as the middle of the buffer (Buffer).
-use mathlib.Core.List.{List}
-use mathlib.Core.Path.{◌≡◌, refl, sym, ◌∙◌, ap}
-use Prim.Native.Nat.{ℕ}
-use Rattle.request.specs.declared.Request.{Request}
-use Rattle.ads1299.specs.declared.Converter.{Converter}
-use Rattle.planner.specs.Submission.{submission, room_at}
-use Rattle.planner.specs.Planned.{refusal_of}
+use mathlib.Core.Path.{refl, sym}
+use Rattle.std.proofs.lemmas.Result.{err_from_is_err_and}
+use Rattle.planner.specs.Submission.{submission}
 use Rattle.planner.proofs.Buffer.{refused, has_passed, start_within, in_part, planned_in}
 use Rattle.planner.proofs.plan.Goals as goal
 
--- the number that was tested is that of the request as the definitions have it
-judged_as : (s : Converter) (party : ℕ) (request : Request) (tx : List ℕ) (at room number : ℕ)
-    → number ≡ refusal_of s (record { party = party; request = request; room = room }) → room ≡ room_at tx at → number ≡ refusal_of s (submission party request tx at)
-judged_as s party request tx at room number e f = e ∙ ap (λ (n : ℕ). refusal_of s (record { party = party; request = request; room = n })) f
+pub returns-in_err-judge-clause-planned : goal.returns-in_err-judge-clause-planned
+returns-in_err-judge-clause-planned c =
+    let a = c.args in
+    let p = err_from_is_err_and c.from_residual.result c.from_residual.ensures.1 in
+    rw (p.1, p.2)
+    (refused a.c (submission a.party a.request a.tx.now a.at) a.tx.now a.at _ (rw c.count_room.ensures at (c.in_err-judge.ensures.judged)))
 
 pub slice_bounds-write_plan-count : goal.slice_bounds-write_plan-count
 slice_bounds-write_plan-count c =
     let a = c.args in
-    let agreed = sym (judged_as a.c a.party a.request a.tx.now a.at _ _ c.refuse-number.ensures c.count_room.ensures) ∙ c.if-number-eq-NONE.true in
+    let agreed = sym (rw c.count_room.ensures at c.in_ok-judge.ensures.judged) in
     start_within a.c (submission a.party a.request a.tx.now a.at) a.tx.now a.at refl agreed
 
 pub slice_bounds-write_plan-start : goal.slice_bounds-write_plan-start
 slice_bounds-write_plan-start c =
     let a = c.args in
-    let agreed = sym (judged_as a.c a.party a.request a.tx.now a.at _ _ c.refuse-number.ensures c.count_room.ensures) ∙ c.if-number-eq-NONE.true in
+    let agreed = sym (rw c.count_room.ensures at c.in_ok-judge.ensures.judged) in
     start_within a.c (submission a.party a.request a.tx.now a.at) a.tx.now a.at refl agreed
 
 pub write_plan-requires : goal.write_plan-requires
 write_plan-requires c =
     let a = c.args in
     let asked = submission a.party a.request a.tx.now a.at in
-    let agreed = sym (judged_as a.c a.party a.request a.tx.now a.at _ _ c.refuse-number.ensures c.count_room.ensures) ∙ c.if-number-eq-NONE.true in
+    let agreed = sym (rw c.count_room.ensures at c.in_ok-judge.ensures.judged) in
     ((has_passed a.c asked a.tx.now a.at refl agreed).takes, in_part a.c asked a.tx.now a.at refl agreed c.change-next.result c.change-next.ensures)
 
-pub returns-then-number-eq-NONE-clause-planned : goal.returns-then-number-eq-NONE-clause-planned
-returns-then-number-eq-NONE-clause-planned c =
+pub returns-clause-planned : goal.returns-clause-planned
+returns-clause-planned c =
     let a = c.args in
     let asked = submission a.party a.request a.tx.now a.at in
-    let agreed = sym (judged_as a.c a.party a.request a.tx.now a.at _ _ c.refuse-number.ensures c.count_room.ensures) ∙ c.if-number-eq-NONE.true in
+    let agreed = sym (rw c.count_room.ensures at c.in_ok-judge.ensures.judged) in
     planned_in a.c asked a.tx.now a.at refl agreed _ _ _ c.plan_length-length.ensures c.change-next.ensures c.write_plan.ensures
-
-pub returns-else-number-eq-NONE-clause-planned : goal.returns-else-number-eq-NONE-clause-planned
-returns-else-number-eq-NONE-clause-planned c =
-    let a = c.args in
-    let number = judged_as a.c a.party a.request a.tx.now a.at _ _ c.refuse-number.ensures c.count_room.ensures in
-    refused a.c (submission a.party a.request a.tx.now a.at) a.tx.now a.at _ number c.if-number-eq-NONE.false

@@ -22,7 +22,7 @@ module _ (s : Converter) (codes : List ℤ) (p n : ℕ) (registers latest : List
   keeps c = rw (f, r, c)
 
 pub returns-then-next : goal.returns-then-next
-returns-then-next c = c.load.ensures ∙ loads c.args.self _ _ _ _ _ c.with_status-registers.ensures c.build-latest.ensures c.if-next.true
+returns-then-next c = c.load.ensures ∙ loads c.args.self _ _ _ _ _ c.with_status-registers.ensures c.build.ensures c.if-next.true
 
 pub returns-else-next : goal.returns-else-next
-returns-else-next c = keeps c.args.self _ _ _ _ _ c.with_status-registers.ensures c.build-latest.ensures c.if-next.false
+returns-else-next c = keeps c.args.self _ _ _ _ _ c.with_status-registers.ensures c.build.ensures c.if-next.false

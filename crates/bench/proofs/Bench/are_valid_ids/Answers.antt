@@ -1,19 +1,12 @@
+use Rattle.std.proofs.Common.{rules}
+use Rattle.std.proofs.lemmas.Iterator.{YieldsList-from_slice}
+use Rattle.std.proofs.lemmas.Iterator.Search.{all_from_yields_List}
+use Rattle.ads1299.specs.PowerUp.{valid_id}
 use Rattle.bench.specs.PowerUp.{valid_ids}
-use Rattle.cases.proofs.Cases.{and_true}
+use Rattle.bench.proofs.Four.{all_is_every}
+use mathlib.Core.Path.{◌∙◌}
 use Rattle.bench.proofs.Bench.are_valid_ids.Goals as goal
 
-pub returns-then-is_valid_id-3 : goal.returns-then-is_valid_id-3
+pub returns : goal.returns
 unfolding valid_ids
-returns-then-is_valid_id-3 c = simp (← c.is_valid_id-then-is_valid_id-3.ensures, and_true c.is_valid_id-then-is_valid_id-3.result, ← c.is_valid_id-then-is_valid_id-2.ensures, c.if-is_valid_id-3.true, ← c.is_valid_id-then-is_valid_id.ensures, c.if-is_valid_id-2.true, ← c.is_valid_id.ensures, c.if-is_valid_id.true)
-
-pub returns-else-is_valid_id-3 : goal.returns-else-is_valid_id-3
-unfolding valid_ids
-returns-else-is_valid_id-3 c = simp (← c.is_valid_id.ensures, c.if-is_valid_id.true, ← c.is_valid_id-then-is_valid_id.ensures, c.if-is_valid_id-2.true, ← c.is_valid_id-then-is_valid_id-2.ensures, c.if-is_valid_id-3.false)
-
-pub returns-else-is_valid_id-2 : goal.returns-else-is_valid_id-2
-unfolding valid_ids
-returns-else-is_valid_id-2 c = simp (← c.is_valid_id.ensures, c.if-is_valid_id.true, ← c.is_valid_id-then-is_valid_id.ensures, c.if-is_valid_id-2.false)
-
-pub returns-else-is_valid_id : goal.returns-else-is_valid_id
-unfolding valid_ids
-returns-else-is_valid_id c = simp (← c.is_valid_id.ensures, c.if-is_valid_id.false)
+returns c = all_from_yields_List valid_id _ _ _ c.all.ensures.ran (YieldsList-from_slice c.args.ids cc) (λ x b q k. search rules) ∙ all_is_every valid_id c.args.ids 0 (search rules)

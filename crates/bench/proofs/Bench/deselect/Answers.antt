@@ -1,22 +1,23 @@
+use Rattle.std.proofs.lemmas.Result.{err_from_is_err_and}
+use Rattle.refusal.proofs.Laws.{refused_lem}
 use Rattle.bench.specs.Line.{bench_deselected}
+use Rattle.bench.specs.Bench.{at}
+use Rattle.bench.proofs.Accepts.{no_rise_refused}
+use Rattle.bench.proofs.Converters.{each_valid}
 use Rattle.bench.proofs.Line.{clear}
-use native.Mathlib.Omega.{arith}
-use mathlib.Core.Path.{sym, ◌∙◌}
-use borrow.Author.Tests.{eq-eqb, ne_eqb}
+use mathlib.Core.Path.{sym}
 use Rattle.bench.proofs.Bench.deselect.Goals as goal
 
-pub bounds-converters-k : goal.bounds-converters-k
+pub returns-in_err-k : goal.returns-in_err-k
 unfolding bench_deselected
-bounds-converters-k c = omega (arith, (clear _ _ (sym c.refuse_line-refused.ensures ∙ c.if-refused-eq-NONE.true)).number)
+returns-in_err-k c = let p = err_from_is_err_and c.from_residual.result c.from_residual.ensures.1 in
+    rw (p.1, p.2) (simp (← c.in_err-k.ensures.refusal, refused_lem c.in_err-k.field-0.0))
 
-pub bounds-converters-k-then-refused-eq-NONE : goal.bounds-converters-k-then-refused-eq-NONE
-unfolding bench_deselected
-bounds-converters-k-then-refused-eq-NONE c = omega (arith, (clear _ _ (sym c.refuse_line-refused.ensures ∙ c.if-refused-eq-NONE.true)).number)
+pub returns-in_err-risen : goal.returns-in_err-risen
+returns-in_err-risen c = let p = c.in_ok-k.ensures.place in
+    let s = (clear _ _ (sym c.in_ok-k.ensures.refusal)).state in
+    absurd (no_rise_refused (at c.args.self c.in_ok-k.k) (each_valid c.args.self s c.in_ok-k.k p.1) c.in_err-risen.field-0.0 c.in_err-risen.ensures)
 
-pub returns-then-refused-eq-NONE : goal.returns-then-refused-eq-NONE
+pub returns : goal.returns
 unfolding bench_deselected
-returns-then-refused-eq-NONE c = simp (← c.refuse_line-refused.ensures, eq-eqb _ _ c.if-refused-eq-NONE.true, ← c.deselect-deselected.ensures)
-
-pub returns-else-refused-eq-NONE : goal.returns-else-refused-eq-NONE
-unfolding bench_deselected
-returns-else-refused-eq-NONE c = simp (← c.refuse_line-refused.ensures, ne_eqb _ _ c.if-refused-eq-NONE.false)
+returns c = simp (← c.in_ok-k.ensures.refusal) (simp (← c.in_ok-k.ensures.place.0, ← c.in_ok-risen.ensures, c.with.ensures))

@@ -1,22 +1,19 @@
+use Rattle.std.proofs.lemmas.Result.{err_from_is_err_and}
+use Rattle.refusal.proofs.Laws.{refused_lem}
 use Rattle.bench.specs.Line.{bench_sampled}
-use Rattle.bench.proofs.Line.{clear}
-use native.Mathlib.Omega.{arith}
-use mathlib.Core.Path.{sym, ◌∙◌}
-use borrow.Author.Tests.{eq-eqb, ne_eqb}
+use Rattle.bench.proofs.Converters.{with_same}
 use Rattle.bench.proofs.Bench.sample.Goals as goal
 
-pub bounds-converters-k : goal.bounds-converters-k
+pub returns-in_err-k : goal.returns-in_err-k
 unfolding bench_sampled
-bounds-converters-k c = omega (arith, (clear _ _ (sym c.refuse_line-refused.ensures ∙ c.if-refused-eq-NONE.true)).number)
+returns-in_err-k c = let p = err_from_is_err_and c.from_residual.result c.from_residual.ensures.1 in
+    rw (p.1, p.2) (simp (← c.in_err-k.ensures.refusal, refused_lem c.in_err-k.field-0.0))
 
-pub bounds-converters-k-then-refused-eq-NONE : goal.bounds-converters-k-then-refused-eq-NONE
+pub returns-in_err-sampled : goal.returns-in_err-sampled
 unfolding bench_sampled
-bounds-converters-k-then-refused-eq-NONE c = omega (arith, (clear _ _ (sym c.refuse_line-refused.ensures ∙ c.if-refused-eq-NONE.true)).number)
+returns-in_err-sampled c = let p = err_from_is_err_and c.from_residual-in_err-sampled.result c.from_residual-in_err-sampled.ensures.1 in
+    rw (p.1, p.2) (simp (← c.in_ok-k.ensures.refusal) (simp (← c.in_ok-k.ensures.place.0, ← c.in_err-sampled.ensures, with_same c.args.self c.in_ok-k.k)))
 
-pub returns-then-refused-eq-NONE : goal.returns-then-refused-eq-NONE
+pub returns : goal.returns
 unfolding bench_sampled
-returns-then-refused-eq-NONE c = simp (← c.refuse_line-refused.ensures, eq-eqb _ _ c.if-refused-eq-NONE.true, ← c.sample-moved.ensures)
-
-pub returns-else-refused-eq-NONE : goal.returns-else-refused-eq-NONE
-unfolding bench_sampled
-returns-else-refused-eq-NONE c = simp (← c.refuse_line-refused.ensures, ne_eqb _ _ c.if-refused-eq-NONE.false)
+returns c = simp (← c.in_ok-k.ensures.refusal) (simp (← c.in_ok-k.ensures.place.0, ← c.in_ok-sampled.ensures, c.with.ensures))

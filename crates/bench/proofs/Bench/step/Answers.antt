@@ -1,22 +1,23 @@
+use Rattle.std.proofs.lemmas.Result.{err_from_is_err_and}
+use Rattle.refusal.proofs.Laws.{refused_lem}
 use Rattle.bench.specs.Line.{bench_stepped}
+use Rattle.bench.specs.Bench.{at}
+use Rattle.bench.proofs.Accepts.{no_byte_refused}
+use Rattle.bench.proofs.Converters.{each_valid}
 use Rattle.bench.proofs.Line.{clear}
-use native.Mathlib.Omega.{arith}
-use mathlib.Core.Path.{sym, ◌∙◌}
-use borrow.Author.Tests.{eq-eqb, ne_eqb}
+use mathlib.Core.Path.{sym}
 use Rattle.bench.proofs.Bench.step.Goals as goal
 
-pub bounds-converters-k : goal.bounds-converters-k
+pub returns-in_err-k : goal.returns-in_err-k
 unfolding bench_stepped
-bounds-converters-k c = omega (arith, (clear _ _ (sym c.refuse_line-refused.ensures ∙ c.if-refused-eq-NONE.true)).number)
+returns-in_err-k c = let p = err_from_is_err_and c.from_residual.result c.from_residual.ensures.1 in
+    rw (p.1, p.2) (simp (← c.in_err-k.ensures.refusal, refused_lem c.in_err-k.field-0.0))
 
-pub bounds-converters-k-then-refused-eq-NONE : goal.bounds-converters-k-then-refused-eq-NONE
-unfolding bench_stepped
-bounds-converters-k-then-refused-eq-NONE c = omega (arith, (clear _ _ (sym c.refuse_line-refused.ensures ∙ c.if-refused-eq-NONE.true)).number)
+pub returns-in_err-out : goal.returns-in_err-out
+returns-in_err-out c = let p = c.in_ok-k.ensures.place in
+    let s = (clear _ _ (sym c.in_ok-k.ensures.refusal)).state in
+    absurd (no_byte_refused (at c.args.self c.in_ok-k.k) (each_valid c.args.self s c.in_ok-k.k p.1) c.in_err-out.field-0.0 c.args.byte c.in_err-out.ensures)
 
-pub returns-then-refused-eq-NONE : goal.returns-then-refused-eq-NONE
+pub returns : goal.returns
 unfolding bench_stepped
-returns-then-refused-eq-NONE c = simp (← c.refuse_line-refused.ensures, eq-eqb _ _ c.if-refused-eq-NONE.true, ← c.step-stepped.ensures)
-
-pub returns-else-refused-eq-NONE : goal.returns-else-refused-eq-NONE
-unfolding bench_stepped
-returns-else-refused-eq-NONE c = simp (← c.refuse_line-refused.ensures, ne_eqb _ _ c.if-refused-eq-NONE.false)
+returns c = simp (← c.in_ok-k.ensures.refusal) (simp (← c.in_ok-k.ensures.place.0, ← c.in_ok-out.ensures, c.with.ensures))

@@ -1,5 +1,4 @@
 -- The loop keeps that the values that are left decide.
-use native.Mathlib.Omega.{arith}
 use Prim.Native.Nat.{ℕ, ◌+◌, ◌-◌, ◌<◌}
 use mathlib.Core.Bool.{Bool, ◌&&◌}
 use mathlib.Core.Path.{◌≡◌, sym, ap, ◌∙◌}
@@ -18,16 +17,16 @@ tested r count i field is_legal left lt f l = left ∙ ap all_legal (settings_st
 pub loop-i-init : goal.loop-i-init
 loop-i-init c =
     let n = c.count_values-count in
-    (n.ensures, (omega arith, ap all_legal (settings_start c.args.request n.result n.ensures)))
+    (n.ensures, ap all_legal (settings_start c.args.request n.result n.ensures))
 
 pub loop-i-preserved : goal.loop-i-preserved
 loop-i-preserved c =
-    let step = tested c.args.request _ _ _ _ c.loop-i.invariant.1.1 c.loop-i-test.true c.field_at.ensures c.is_legal.ensures in
-    (c.loop-i.invariant.0, (omega (arith, c.loop-i-test.true), step ∙ simp c.if-is_legal.true))
+    let step = tested c.args.request _ _ _ _ c.loop-i.invariant.1 c.loop-i-test.true c.field_at.ensures c.is_legal.ensures in
+    (c.loop-i.invariant.0, step ∙ simp c.if-not-is_legal.false)
 
-pub returns-else-is_legal : goal.returns-else-is_legal
-returns-else-is_legal c =
-    sym (tested c.args.request _ _ _ _ c.loop-i.invariant.1.1 c.loop-i-test.true c.field_at.ensures c.is_legal.ensures ∙ simp c.if-is_legal.false)
+pub returns-then-not-is_legal : goal.returns-then-not-is_legal
+returns-then-not-is_legal c =
+    sym (tested c.args.request _ _ _ _ c.loop-i.invariant.1 c.loop-i-test.true c.field_at.ensures c.is_legal.ensures ∙ simp c.if-not-is_legal.true)
 
 pub returns : goal.returns
-returns c = sym (c.loop-i.invariant.1.1 ∙ ap all_legal (settings_end c.args.request c.count_values-count.result c.loop-i.i c.loop-i-test.false))
+returns c = sym (c.loop-i.invariant.1 ∙ ap all_legal (settings_end c.args.request c.count_values-count.result c.loop-i.i c.loop-i-test.false))

@@ -1,5 +1,5 @@
 -- The loop keeps that the settings that are left lead to the same registers.
-use Prim.Native.Nat.{◌-◌, ◌≤◌}
+use Prim.Native.Nat.{◌-◌}
 use mathlib.Core.Path.{◌≡◌}
 use Rattle.ads1299_settings.specs.Settings.{with_settings}
 use Rattle.request.specs.Requests.{value_count}
@@ -9,7 +9,4 @@ use Rattle.planner.proofs.fields.set_all.Given as goal
 
 abbrev pub invariant-loop-done : goal.invariant-loop-done
 invariant-loop-done l = (l.count ≡ value_count l.request.field)
-    × ((l.done ≤ l.count) × (registers_after l.initial.after l.request ≡ with_settings l.after l.request.channel (settings_from l.request l.done (l.count - l.done))))
-
-abbrev pub decreases-loop-done : goal.decreases-loop-done
-decreases-loop-done l = l.count - l.done
+    × (registers_after l.initial.after l.request ≡ with_settings l.after l.request.channel (settings_from l.request l.done (l.count - l.done)))
