@@ -1,5 +1,5 @@
 -- Bytes in an array that is longer, 0 past them.
-use mathlib.Core.List.{List, ◌++◌, append-nil}
+use mathlib.Core.List.{List, ◌++◌}
 use mathlib.Core.Path.{◌≡◌, sym, ap, ◌∙◌}
 use Prim.Native.Nat.{ℕ, ◌+◌, ◌-◌, ◌≤◌}
 use native.Mathlib.Omega.{arith}
@@ -20,11 +20,6 @@ pub drop_zeros : (g n : ℕ) → g ≤ n → drop g (zeros n) ≡ zeros (n - g)
 drop_zeros g n h =
     let e : n ≡ g + (n - g) = omega arith in
     ap (λ (k : ℕ). drop g (zeros k)) e ∙ ap (λ (l : List ℕ). drop g l) (sym (join_zeros g (n - g))) ∙ drop_at (zeros g) (zeros (n - g)) g (length_zeros g)
-
--- a list that is as long as the array
-pub padded_whole : (m : ℕ) (l : List ℕ) → length l ≡ m → padded m l ≡ l
-unfolding padded
-padded_whole m l e = let z : m - length l ≡ 0 = omega arith in rw (z, append-nil)
 
 pub length_padded : (m : ℕ) (l : List ℕ) → length l ≤ m → length (padded m l) ≡ m
 unfolding padded
