@@ -7,9 +7,9 @@ use Rattle.cases.proofs.Cases.{split}
 use Rattle.refusal.specs.First.{accepted}
 use Rattle.splice.specs.Splice.{room_at}
 use Rattle.demand1.proofs.Demand1.{kept_by}
-use Rattle.ads7953.specs.declared.Framed.{Framed}
+use Rattle.ads7953.specs.Answers.{Framed}
 use Rattle.ads7953.specs.Frame.{framed}
-use Rattle.ads7953_list.specs.declared.ListPlanned.{ListPlanned}
+use Rattle.ads7953_list.specs.Answers.{ListPlanned}
 use Rattle.ads7953_list.specs.Planned.{list_planned, list_tx_after}
 use Rattle.ads7953_demand1.proofs.Demand1.{ads7953_demand1}
 use Rattle.flat_ads7953.specs.declared.FlatAds7953.{FlatAds7953}

@@ -6,10 +6,11 @@ ghost use Rattle.splice.specs.Splice.{room_at};
 ghost use Rattle.ads7953.specs.Frame.{powered_up, framed};
 ghost use Rattle.ads7953_list.specs.Planned.{list_planned, list_tx_after};
 ghost use Rattle.flat_ads7953.specs.Flat.{flat_part, part_of};
-ghost use Rattle.capi_ads7953.specs.Answers.{framed_from, list_planned_from, list_buffer_from};
+ghost use Rattle.capi_ads7953.specs.Answers.{framed_from, list_planned_from, list_buffer_from, flat_frame_answer, flat_list_answer};
 
-use ads7953::Ads7953;
+use ads7953::{Ads7953, Exchange};
 use flat_ads7953::FlatAds7953;
+use refusal::Refusal;
 
 #[repr(C)]
 #[derive(Clone, Copy)]
@@ -30,28 +31,47 @@ pub struct FlatListPlanned {
 pub extern "C" fn rimevelvet_ads7953_power_up() -> FlatAds7953
     ensures { result ≡ flat_part powered_up }
 {
-    flat_ads7953::flatten(Ads7953::power_up())
+    FlatAds7953::from(Ads7953::power_up())
+}
+
+// A frame of the state that the bytes stand for.
+fn frame(part: FlatAds7953, word: u16, code: u16) -> Result<Exchange, Refusal>
+    ensures { flat_frame_answer part result ≡ framed_from part (framed (part_of part) word code) }
+{
+    Ads7953::try_from(part)?.frame(word, code)
 }
 
 #[unsafe(no_mangle)]
 pub extern "C" fn rimevelvet_ads7953_frame(part: FlatAds7953, word: u16, code: u16) -> FlatFramed
     ensures { result ≡ framed_from part (framed (part_of part) word code) }
 {
-    if flat_ads7953::is_part(part) {
-        let before = flat_ads7953::part_of(part);
-        let framed = before.frame(word, code);
-        FlatFramed {
-            refusal: framed.refusal,
-            reply: framed.reply,
-            next: flat_ads7953::flatten(framed.next),
-        }
-    } else {
-        FlatFramed {
-            refusal: refusal::INVALID_STATE,
+    match frame(part, word, code) {
+        Ok(exchange) => FlatFramed {
+            refusal: refusal::NONE,
+            reply: exchange.reply,
+            next: FlatAds7953::from(exchange.next),
+        },
+        Err(refusal) => FlatFramed {
+            refusal: u8::from(refusal),
             reply: 0,
             next: part,
-        }
+        },
     }
+}
+
+// A list for the part whose state the bytes stand for.
+fn plan_list(
+    part: FlatAds7953,
+    party: u32,
+    list: u16,
+    tx: &mut [u8],
+    at: usize,
+) -> Result<usize, Refusal>
+    ensures { (flat_list_answer result ≡ list_planned_from part (list_planned (part_of part) party list (room_at tx.old at)))
+        × (tx.new ≡ list_buffer_from part (list_tx_after (part_of part) party list tx.old at) tx.old) }
+{
+    let before = Ads7953::try_from(part)?;
+    ads7953_list::plan_list(before, party, list, tx, at)
 }
 
 #[unsafe(no_mangle)]
@@ -65,17 +85,14 @@ pub extern "C" fn rimevelvet_ads7953_plan_list(
     ensures { (result ≡ list_planned_from part (list_planned (part_of part) party list (room_at tx.old at)))
         × (tx.new ≡ list_buffer_from part (list_tx_after (part_of part) party list tx.old at) tx.old) }
 {
-    if flat_ads7953::is_part(part) {
-        let before = flat_ads7953::part_of(part);
-        let planned = ads7953_list::plan_list(before, party, list, tx, at);
-        FlatListPlanned {
-            refusal: planned.refusal,
-            length: planned.length,
-        }
-    } else {
-        FlatListPlanned {
-            refusal: refusal::INVALID_STATE,
+    match plan_list(part, party, list, tx, at) {
+        Ok(length) => FlatListPlanned {
+            refusal: refusal::NONE,
+            length,
+        },
+        Err(refusal) => FlatListPlanned {
+            refusal: u8::from(refusal),
             length: 0,
-        }
+        },
     }
 }
