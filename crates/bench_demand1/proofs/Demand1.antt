@@ -13,7 +13,7 @@ use Rattle.ads1299.specs.declared.Converter.{Converter}
 use Rattle.ads1299.specs.Answers.{Moved}
 use Rattle.ads1299.specs.Sample.{sampled}
 use Rattle.grants.specs.Grant.{granted}
-use Rattle.readings.specs.declared.Reading.{Reading}
+use Rattle.readings.specs.Answers.{Reading}
 use Rattle.readings.specs.Reading.{reading}
 use Rattle.planner.specs.Answers.{Planned}
 use Rattle.planner.specs.Submission.{Submission}

@@ -4,7 +4,7 @@ use Rattle.std.specs.Prelude.{ℕ, ◌≡◌, false, not, List, [], ◌∷◌, �
 use Rattle.refusal.specs.Numbers.{invalid_state}
 use Rattle.refusal.specs.First.{first_of, accepted}
 use Rattle.ads1299_codes.specs.declared.Rail.TheVariants.{Neither}
-use Rattle.readings.specs.declared.Reading.{Reading}
+use Rattle.readings.specs.Answers.{Reading}
 use Rattle.readings.specs.Reading.{reading}
 use Rattle.planner.specs.Submission.{Submission}
 use Rattle.demand1.specs.Demand1.{Judges}

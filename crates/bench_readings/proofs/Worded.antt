@@ -8,7 +8,7 @@ use Rattle.cases.proofs.Cases.{split, and_both}
 use Rattle.refusal.specs.First.{first_of}
 use Rattle.parties.specs.Owners.{owner_of, owns}
 use Rattle.ads1299_registers.specs.Channels.{is_channel}
-use Rattle.readings.specs.declared.Reading.{Reading}
+use Rattle.readings.specs.Answers.{Reading}
 use Rattle.readings.specs.Reading.{reading_refusal, channel_reading}
 use Rattle.readings.proofs.Refusals.{reading_number}
 use Rattle.lines.specs.Lines.{is_converter, converter_of, local_channel, channel_on}

@@ -5,7 +5,7 @@ use Rattle.parties.specs.Parties.{known_party}
 use Rattle.parties.specs.Owners.{owns}
 use Rattle.ads1299_codes.specs.declared.Rail.TheVariants.{Neither}
 use Rattle.ads1299_readout.specs.Reading.{is_frame}
-use Rattle.readings.specs.declared.Reading.{Reading}
+use Rattle.readings.specs.Answers.{Reading}
 use Rattle.readings.specs.Reading.{reading, channel_reading, part_bytes, part_place}
 use Rattle.lines.specs.Lines.{is_converter, converter_of, channel_on}
 use Rattle.lines.specs.Ranges.{is_bench_channel, has_channel}

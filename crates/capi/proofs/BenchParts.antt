@@ -8,7 +8,7 @@ use lib.ListN.{length}
 use Rattle.cases.proofs.Cases.{split}
 use Rattle.refusal.specs.Numbers.{none}
 use Rattle.refusal.specs.First.{accepted}
-use Rattle.readings.specs.declared.Reading.{Reading}
+use Rattle.readings.specs.Answers.{Reading}
 use Rattle.readings.specs.Reading.{part_bytes}
 use Rattle.lines.specs.Lines.{converter_of, channel_on}
 use Rattle.bench.specs.declared.Bench.{Bench}

@@ -10,7 +10,7 @@ use Rattle.ads1299.specs.declared.Converter.{Converter}
 use Rattle.ads1299.specs.Answers.{PoweredUp}
 use Rattle.ads1299.specs.Answers.{Stepped}
 use Rattle.ads1299.specs.Answers.{Moved}
-use Rattle.readings.specs.declared.Reading.{Reading}
+use Rattle.readings.specs.Answers.{Reading}
 use Rattle.readings.specs.Reading.{channel_reading, part_bytes, part_place}
 use Rattle.planner.specs.Answers.{Planned}
 use Rattle.flat.specs.declared.FlatConverter.{FlatConverter}

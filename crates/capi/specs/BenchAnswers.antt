@@ -1,7 +1,7 @@
 -- What the calls on a bench answer: as Answers has it for one converter, with benches in flat form, and 13 where a flat form stands for no bench.
 use Rattle.std.specs.Prelude.{ℕ, cond, List, length}
 use Rattle.refusal.specs.Numbers.{invalid_state}
-use Rattle.readings.specs.declared.Reading.{Reading}
+use Rattle.readings.specs.Answers.{Reading}
 use Rattle.bench.specs.declared.Bench.{Bench}
 use Rattle.bench.specs.Answers.{BenchPoweredUp, BenchStepped, BenchMoved}
 use Rattle.bench_planner.specs.declared.BenchPlanned.{BenchPlanned}

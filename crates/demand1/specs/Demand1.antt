@@ -22,7 +22,7 @@ use Rattle.ads1299.specs.Validity.{valid}
 use Rattle.ads1299.specs.Step.{stepped}
 use Rattle.ads1299.specs.Deselect.{deselected}
 use Rattle.ads1299.specs.Sample.{sample_refusals, sampled}
-use Rattle.readings.specs.declared.Reading.{Reading}
+use Rattle.readings.specs.Answers.{Reading}
 use Rattle.grants.specs.Grant.{grant_refusals, granted}
 use Rattle.readings.specs.Reading.{reading_refusals, reading, channel_reading, part_bytes}
 use Rattle.ads1299_settings.specs.Registers.{field_of}

@@ -8,7 +8,7 @@ use Rattle.ads1299.specs.State.{with_owners, with_converting}
 use Rattle.ads1299.specs.Figures.{shared}
 use Rattle.planner.specs.Submission.{Submission}
 use Rattle.planner.specs.Figures.{asks, command, half}
-use Rattle.readings.specs.declared.Reading.{Reading}
+use Rattle.readings.specs.Answers.{Reading}
 use Rattle.readings.specs.Reading.{reading}
 use Rattle.readings.specs.Figures.{full}
 use Rattle.lines.specs.Lines.{converter_of, local_channel}

@@ -11,7 +11,7 @@ use Rattle.refusal.specs.First.{accepted}
 use Rattle.ads1299_codes.specs.Rails.{stands_for, rail_of}
 use Rattle.ads1299_readout.specs.Reading.{channel_bytes, rail_at}
 use Rattle.ads1299.specs.declared.Converter.{Converter}
-use Rattle.readings.specs.declared.Reading.{Reading}
+use Rattle.readings.specs.Answers.{Reading}
 use Rattle.readings.specs.Reading.{reading_refusal, channel_reading, part_bytes}
 use Rattle.readings.specs.Claims.{ThreeOrNone, RailOfCode}
 use Rattle.ads1299_registers.proofs.Bounds.{bounds}

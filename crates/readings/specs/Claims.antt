@@ -14,7 +14,7 @@ use Rattle.ads1299.specs.Validity.{valid}
 use Rattle.ads1299.specs.Sample.{sampled}
 use Rattle.parties.specs.Owners.{owner_of}
 use Rattle.ads1299_registers.specs.Channels.{is_channel}
-use Rattle.readings.specs.declared.Reading.{Reading}
+use Rattle.readings.specs.Answers.{Reading}
 use Rattle.readings.specs.Reading.{reading, channel_reading, part_bytes, part_place}
 
 -- two states pass 13 with the same owners, and two lists of bytes agree in length, in the first four bits, in a channel's bytes and in its two lead-off bits

@@ -7,7 +7,7 @@ use Rattle.ads1299.specs.declared.Converter.{Converter}
 use Rattle.ads1299.specs.State.{with_registers, with_converting}
 use Rattle.ads1299.specs.Sample.{sampled}
 use Rattle.ads1299.specs.Figures.{shared, invalid}
-use Rattle.readings.specs.declared.Reading.{Reading}
+use Rattle.readings.specs.Answers.{Reading}
 use Rattle.readings.specs.Reading.{reading, channel_reading, part_bytes}
 
 pub data Figure : Type 0 where

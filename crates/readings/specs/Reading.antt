@@ -8,7 +8,7 @@ use Rattle.ads1299_codes.specs.declared.Rail.TheVariants.{Neither}
 use Rattle.ads1299_readout.specs.Reading.{is_frame, channel_bytes, code_at, rail_at, lead_off_p, lead_off_n}
 use Rattle.ads1299.specs.declared.Converter.{Converter}
 use Rattle.ads1299.specs.Validity.{valid}
-use Rattle.readings.specs.declared.Reading.{Reading}
+use Rattle.readings.specs.Answers.{Reading}
 use Rattle.parties.specs.Parties.{known_party}
 use Rattle.parties.specs.Owners.{owns}
 use Rattle.ads1299_registers.specs.Channels.{is_channel}

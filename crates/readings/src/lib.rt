@@ -2,15 +2,17 @@
 #![tactic(auto)]
 
 ghost use Rattle.std.specs.Prelude.{◌≡◌, ◌+◌};
+ghost use Rattle.refusal.specs.Refusals.{answer_number};
+ghost use Rattle.readings.specs.Answers.{reading_answer};
 ghost use Rattle.readings.specs.Reading.{reading_refusal, channel_reading, part_bytes, part_place};
 
 use ads1299::Converter;
-use ads1299_codes::{Rail, WORD_LENGTH};
+use ads1299_codes::{Decoded, Rail, WORD_LENGTH};
+use refusal::Refusal;
 
 // A channel's code with its rail, and its bits of P and N.
-#[derive(Clone, Copy)]
-pub struct Reading {
-    pub refusal: u8,
+#[derive(Clone, Copy, Debug, PartialEq, Eq)]
+pub struct Readout {
     pub code: i32,
     pub rail: Rail,
     pub p: bool,
@@ -18,49 +20,46 @@ pub struct Reading {
 }
 
 // The tests in the order of document 01: the owner before the frame.
-fn refuse_reading(converter: Converter, party: u32, channel: u32, frame: &[u8]) -> u8
-    ensures { result ≡ reading_refusal converter party channel frame.now }
+fn judge_reading(
+    converter: Converter,
+    party: u32,
+    channel: u32,
+    frame: &[u8],
+) -> Result<(), Refusal>
+    ensures { answer_number result ≡ reading_refusal converter party channel frame.now }
 {
-    let owners = converter.owners;
     let valid = converter.is_valid();
     let known = parties::is_known(party);
     let there = ads1299_registers::is_channel(channel);
-    let owner = parties::is_owner(&owners, party, channel);
+    let owner = parties::is_owner(&converter.owners, party, channel);
     let framed = ads1299_readout::is_frame(frame);
-    let numbers = [
-        refusal::when(!valid, refusal::INVALID_STATE),
-        refusal::when(!known, refusal::UNKNOWN_PARTY),
-        refusal::when(!there, refusal::WRONG_CHANNEL),
-        refusal::when(!owner, refusal::NOT_OWNER),
-        refusal::when(!framed, refusal::BAD_FRAME),
+    let tests = [
+        refusal::when(!valid, Refusal::InvalidState),
+        refusal::when(!known, Refusal::UnknownParty),
+        refusal::when(!there, Refusal::WrongChannel),
+        refusal::when(!owner, Refusal::NotOwner),
+        refusal::when(!framed, Refusal::BadFrame),
     ];
-    refusal::first_of(&numbers)
+    refusal::first_of(&tests)
 }
 
 // Reads a channel from a frame, for its owner alone: the administrator too reads only its own.
-pub fn read_channel(converter: Converter, party: u32, channel: u32, frame: &[u8]) -> Reading
-    ensures { result ≡ channel_reading converter party channel frame.now }
+pub fn read_channel(
+    converter: Converter,
+    party: u32,
+    channel: u32,
+    frame: &[u8],
+) -> Result<Readout, Refusal>
+    ensures { reading_answer result ≡ channel_reading converter party channel frame.now }
 {
-    let number = refuse_reading(converter, party, channel, frame);
-    if number == refusal::NONE {
-        let decoded = ads1299_readout::decode_channel(frame, channel);
-        let rail = decoded.rail;
-        Reading {
-            refusal: refusal::NONE,
-            code: decoded.code,
-            rail,
-            p: ads1299_readout::lead_off_p(frame, channel),
-            n: ads1299_readout::lead_off_n(frame, channel),
-        }
-    } else {
-        Reading {
-            refusal: number,
-            code: 0,
-            rail: Rail::Neither,
-            p: false,
-            n: false,
-        }
-    }
+    judge_reading(converter, party, channel, frame)?;
+    let Decoded { code, rail } = ads1299_readout::decode_channel(frame, channel);
+    Ok(Readout {
+        code,
+        rail,
+        p: ads1299_readout::lead_off_p(frame, channel),
+        n: ads1299_readout::lead_off_n(frame, channel),
+    })
 }
 
 // The channel's three bytes as a part of the caller's own frame, not a copy; an empty part where read_channel refuses. Which
@@ -69,12 +68,11 @@ pub fn channel_bytes(converter: Converter, party: u32, channel: u32, frame: &[u8
     ensures { (result.now ≡ part_bytes converter party channel frame.now)
         × (result.ref_ptr ≡ (frame.entry.ref_ptr.0, part_place converter party channel frame.now + frame.entry.ref_ptr.1)) }
 {
-    let number = refuse_reading(converter, party, channel, frame);
-    if number == refusal::NONE {
-        let start = WORD_LENGTH * channel as usize;
-        let end = start + WORD_LENGTH;
-        &frame[start..end]
-    } else {
-        &frame[0..0]
+    match judge_reading(converter, party, channel, frame) {
+        Ok(()) => {
+            let start = WORD_LENGTH * channel as usize;
+            &frame[start..start + WORD_LENGTH]
+        }
+        Err(_) => &frame[0..0],
     }
 }

@@ -1,5 +1,5 @@
 use Rattle.capi.proofs.Parts.{part_taken, part_refused}
-use Rattle.readings.specs.declared.Reading.{Reading}
+use Rattle.readings.specs.Answers.{Reading}
 use borrow.Author.Tests.{ne_eqb}
 use mathlib.Core.Path.{sym, ap, ◌∙◌}
 use Rattle.capi.proofs.channels.locate_part.Goals as goal

@@ -3,7 +3,7 @@ use Rattle.refusal.specs.Numbers.{invalid_state, unknown_party, wrong_channel, n
 use Rattle.refusal.proofs.First.{walked, says}
 use mathlib.Core.List.{[], ◌∷◌}
 use mathlib.Core.Path.{refl}
-use Rattle.readings.proofs.refuse_reading.Goals as goal
+use Rattle.readings.proofs.judge_reading.Goals as goal
 
 pub returns : goal.returns
 unfolding reading_refusal
