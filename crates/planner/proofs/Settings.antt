@@ -1,11 +1,12 @@
 -- A request's settings, from the request: what holds for the one field, or for each of a channel's nine, holds for them all.
 use Prim.Native.Nat.{ℕ, zero, suc, ◌+◌, ◌-◌, ◌≤◌, ◌<◌}
 use mathlib.Core.Path.{◌≡◌, refl, sym, ◌∙◌, ap}
-use mathlib.Core.Bool.{Bool, true, false, false≢true}
+use mathlib.Core.Bool.{Bool, true, false, false≢true, ◌&&◌}
 use mathlib.Core.List.{List, [], ◌∷◌}
 use native.Mathlib.Omega.{arith}
 use borrow.Author.Tests.{eqb-true, eqb-false, eq-eqb, ne_eqb}
 use lib.Dec.{eqb}
+use Rattle.std.specs.List.{list_all, range_with_len}
 use Rattle.cases.specs.Every.{every, any_of}
 use Rattle.cases.proofs.Cases.{split, and_both}
 use Rattle.ads1299_registers.specs.Channels.{is_channel}
@@ -69,6 +70,12 @@ all_settable_lem n (a ∷ rest) names values =
     let k = and_both (named a.field n) (every (λ (a : Setting). named a.field n) rest) names in
     let l = and_both (legal a.field a.value) (all_legal rest) values in
     rw (legal_settable a.field n a.value k.0 l.0, all_settable_lem n rest k.1 l.1)
+
+-- the definition goes setting by setting, the code asks std's test of all values' places
+pub legal_all : (r : Request) (more i : ℕ) → list_all (λ k. legal (setting_at r k).field (setting_at r k).value) (range_with_len i more) ≡ all_legal (settings_from r i more)
+unfolding settings_from
+legal_all r zero i = refl
+legal_all r (suc more) i = ap (λ b. legal (setting_at r i).field (setting_at r i).value && b) (legal_all r more (i + 1))
 
 -- the settings one by one, as the code goes through them
 pub settings_start : (r : Request) (count : ℕ) → count ≡ value_count r.field → settings r ≡ settings_from r 0 (count - 0)
