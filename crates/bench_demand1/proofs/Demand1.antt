@@ -31,7 +31,7 @@ use Rattle.bench_grants.specs.Grant.{bench_granted}
 use Rattle.bench_grants.proofs.Worded.{grants_as_worded}
 use Rattle.bench_readings.specs.Reading.{bench_reading, bench_part_bytes, bench_reading_refusals}
 use Rattle.bench_readings.proofs.Worded.{readings_as_worded, reading_is}
-use Rattle.bench_planner.specs.declared.BenchPlanned.{BenchPlanned}
+use Rattle.bench_planner.specs.Answers.{BenchPlanned}
 use Rattle.bench_planner.specs.Local.{target, localised}
 use Rattle.bench_planner.specs.Fields.{bench_field}
 use Rattle.bench_planner.specs.Refusals.{bench_refusals}

@@ -16,12 +16,12 @@ use Rattle.bench.specs.PowerUp.{valid_ids, started, bench_powered_up}
 use Rattle.bench.specs.Line.{line_refusals, bench_sample_refusals, bench_moved, bench_stepped, bench_deselected, bench_sampled}
 use Rattle.bench_grants.specs.Grant.{bench_granted, bench_grant_refusals}
 use Rattle.bench_readings.specs.Reading.{bench_reading, bench_part_bytes, bench_reading_refusals}
-use Rattle.bench_planner.specs.declared.BenchPlanned.{BenchPlanned}
+use Rattle.bench_planner.specs.Answers.{BenchPlanned}
 use Rattle.bench_planner.specs.Fields.{bench_field}
 use Rattle.bench_planner.specs.Refusals.{bench_refusals}
 use Rattle.bench_planner.specs.Planned.{bench_planned}
 use Rattle.bench_planner.specs.Buffer.{bench_tx_after}
-use Rattle.bench_live.specs.declared.Answer.{Answer}
+use Rattle.bench_live.specs.Answers.{Answer}
 use Rattle.bench_live.specs.Answers.{answer_of}
 
 -- Every entry point of the bench judges its own input, and a refused call changes nothing.

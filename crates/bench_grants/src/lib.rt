@@ -2,29 +2,23 @@
 #![tactic(auto)]
 
 ghost use Rattle.std.specs.Prelude.{◌≡◌};
+ghost use Rattle.bench.specs.Answers.{bench_moved_answer};
 ghost use Rattle.bench_grants.specs.Grant.{bench_granted};
 
-use bench::{Bench, BenchMoved};
+use bench::Bench;
+use refusal::Refusal;
 
 // Gives a channel to a party, on the converter that has it.
-pub fn grant(bench: Bench, caller: u32, receiver: u32, channel: u32) -> BenchMoved
-    ensures { result ≡ bench_granted bench caller receiver channel }
+#[tactic(auto, using(lines::proofs::Numbering::mapped_below), unfolding(crate::specs::Grant::bench_granted))]
+pub fn grant(mut bench: Bench, caller: u32, receiver: u32, channel: u32) -> Result<Bench, Refusal>
+    ensures { bench_moved_answer bench result ≡ bench_granted bench caller receiver channel }
 {
-    if bench.is_valid() {
-        let k = lines::converter_of(channel) as usize;
-        let local = lines::local_channel(channel);
-        let mut converters = bench.converters;
-        let moved = grants::grant(converters[k], caller, receiver, local);
-        let next = moved.next;
-        converters[k] = next;
-        BenchMoved {
-            refusal: moved.refusal,
-            next: Bench { converters },
-        }
-    } else {
-        BenchMoved {
-            refusal: refusal::INVALID_STATE,
-            next: bench,
-        }
+    if !bench.is_valid() {
+        return Err(Refusal::InvalidState);
     }
+    let k = lines::converter_of(channel) as usize;
+    let local = lines::local_channel(channel);
+    let granted = grants::grant(bench.converters[k], caller, receiver, local)?;
+    bench.converters[k] = granted;
+    Ok(bench)
 }

@@ -2,3 +2,4 @@ pub mod Worded
 pub mod Channels
 pub mod Placement
 pub mod Unused
+pub mod Kept

@@ -1,4 +1,5 @@
 pub mod Local
+pub mod Answers
 pub mod Planned
 pub mod Buffer
 pub mod Fields

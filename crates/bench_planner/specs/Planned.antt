@@ -8,7 +8,7 @@ use Rattle.planner.specs.Planned.{plan, planned}
 use Rattle.bench.specs.declared.Bench.{Bench}
 use Rattle.bench.specs.Bench.{at, with_converter, valid_bench}
 use Rattle.bench.specs.Run.{bytes_for}
-use Rattle.bench_planner.specs.declared.BenchPlanned.{BenchPlanned}
+use Rattle.bench_planner.specs.Answers.{BenchPlanned}
 use Rattle.bench_planner.specs.Local.{target, localised}
 
 -- gives converter k's answer as the bench's: its number goes with a plan, and is 0 on a refusal

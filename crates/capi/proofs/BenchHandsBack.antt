@@ -11,7 +11,7 @@ use Rattle.bench.specs.declared.Bench.{Bench}
 use Rattle.bench.specs.Answers.{BenchMoved, BenchStepped}
 use Rattle.bench.specs.Line.{bench_deselected, bench_sampled}
 use Rattle.bench_grants.specs.Grant.{bench_granted}
-use Rattle.bench_planner.specs.declared.BenchPlanned.{BenchPlanned}
+use Rattle.bench_planner.specs.Answers.{BenchPlanned}
 use Rattle.bench_demand1.proofs.Demand1.{bench_demand1, sample_kept, grant_kept, reading_kept, plan_kept, tx_kept}
 use Rattle.flat_bench.specs.declared.FlatBench.{FlatBench}
 use Rattle.flat_bench.specs.Flat.{flat_bench, is_bench, bench_of}

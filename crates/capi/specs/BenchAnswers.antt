@@ -4,7 +4,7 @@ use Rattle.refusal.specs.Numbers.{invalid_state}
 use Rattle.readings.specs.Answers.{Reading}
 use Rattle.bench.specs.declared.Bench.{Bench}
 use Rattle.bench.specs.Answers.{BenchPoweredUp, BenchStepped, BenchMoved}
-use Rattle.bench_planner.specs.declared.BenchPlanned.{BenchPlanned}
+use Rattle.bench_planner.specs.Answers.{BenchPlanned}
 use Rattle.bench_readings.specs.Reading.{bench_reading, bench_part_bytes, bench_part_place}
 use Rattle.flat_bench.specs.declared.FlatBench.{FlatBench}
 use Rattle.flat_bench.specs.Flat.{flat_bench, is_bench}

@@ -7,7 +7,6 @@ use native.Mathlib.Omega.{arith}
 use borrow.Author.Tests.{eq-eqb, ne_eqb, eqb-false}
 use lib.Dec.{eqb}
 use lib.ListN.{length, drop, length-append, length-drop}
-use lib.Seq.{drop-drop}
 use Rattle.splice.specs.Splice.{spliced}
 use Rattle.splice.proofs.Splice.{splices_join}
 use Rattle.cases.proofs.Cases.{split}
@@ -45,45 +44,39 @@ one_by_one s party bytes h =
     (ap (λ (l : List ℕ). printed s party bytes ++ l)
     (enough (length bytes) (length (drop (consumed bytes) bytes)) (next_state s party bytes) party (drop (consumed bytes) bytes) (omega arith) (omega arith)))
 
-pub no_more : (s : Converter) (party at : ℕ) (bytes : List ℕ) → length bytes ≤ at → session s party (drop at bytes) ≡ []
+pub no_more : (s : Converter) (party : ℕ) (rest : List ℕ) → length rest ≡ 0 → session s party rest ≡ []
 unfolding session lines
-no_more s party at bytes h =
-    let d = length-drop at bytes in
-    enough (length (drop at bytes)) 0 s party (drop at bytes) (omega arith) (omega arith)
+no_more s party rest h = enough (length rest) 0 s party rest (omega arith) (omega arith)
 
--- one turn of the code, from a place in the bytes and one in the text
-module _ (s : Converter) (party at place : ℕ) (bytes out : List ℕ) (h : at < length bytes) where
-  some_rest : 0 < length (drop at bytes)
-  some_rest = omega (arith, length-drop at bytes)
+-- one turn of the code, from what is left of the bytes and a place in the text
+module _ (s : Converter) (party place : ℕ) (rest out : List ℕ) (h : 0 < length rest) where
+  pub room : length (printed s party rest) ≤ length (session s party rest)
+  room = omega (arith, ap length (one_by_one s party rest h), length-append (printed s party rest) (session (next_state s party rest) party (drop (consumed rest) rest)))
 
-  pub room : length (printed s party (drop at bytes)) ≤ length (session s party (drop at bytes))
-  room = omega (arith, ap length (one_by_one s party (drop at bytes) some_rest), length-append (printed s party (drop at bytes)) (session (next_state s party (drop at bytes)) party (drop (consumed (drop at bytes)) (drop at bytes))))
-
-  module _ (t : Turn) (et : t ≡ turn s party (drop at bytes) place) where
-    pub goes_on : (0 < t.used) × (at + t.used ≤ length bytes)
+  module _ (t : Turn) (et : t ≡ turn s party rest place) where
+    pub goes_on : (0 < t.used) × (t.used ≤ length rest)
     unfolding turn
     goes_on =
-        let u : t.used ≡ consumed (drop at bytes) = ap (λ (x : Turn). x.used) et in
-        let d = length-drop at bytes in
-        (omega (arith, some_consumed (drop at bytes) some_rest), omega (arith, consumed_within (drop at bytes) some_rest))
+        let u : t.used ≡ consumed rest = ap (λ (x : Turn). x.used) et in
+        (omega (arith, some_consumed rest h), omega (arith, consumed_within rest h))
 
-    after : session s party (drop at bytes) ≡ printed s party (drop at bytes) ++ session t.next party (drop (at + t.used) bytes)
+    after : session s party rest ≡ printed s party rest ++ session t.next party (drop t.used rest)
     unfolding turn
-    after = one_by_one s party (drop at bytes) some_rest ∙ rw (et, drop-drop)
+    after = one_by_one s party rest h ∙ rw et
 
-    pub text_length : place + length (session s party (drop at bytes)) ≡ t.place + length (session t.next party (drop (at + t.used) bytes))
+    pub text_length : place + length (session s party rest) ≡ t.place + length (session t.next party (drop t.used rest))
     unfolding turn
     text_length =
-        let p : t.place ≡ place + length (printed s party (drop at bytes)) = ap (λ (x : Turn). x.place) et in
-        omega (arith, ap length after, length-append (printed s party (drop at bytes)) (session t.next party (drop (at + t.used) bytes)))
+        let p : t.place ≡ place + length (printed s party rest) = ap (λ (x : Turn). x.place) et in
+        omega (arith, ap length after, length-append (printed s party rest) (session t.next party (drop t.used rest)))
 
-    pub text : place + length (session s party (drop at bytes)) ≤ length out
-        → (more : List ℕ) → more ≡ spliced out place (printed s party (drop at bytes))
-        → spliced out place (session s party (drop at bytes)) ≡ spliced more t.place (session t.next party (drop (at + t.used) bytes))
+    pub text : place + length (session s party rest) ≤ length out
+        → (more : List ℕ) → more ≡ spliced out place (printed s party rest)
+        → spliced out place (session s party rest) ≡ spliced more t.place (session t.next party (drop t.used rest))
     unfolding turn
     text fits more em =
-        let first = printed s party (drop at bytes) in
-        let second = session t.next party (drop (at + t.used) bytes) in
+        let first = printed s party rest in
+        let second = session t.next party (drop t.used rest) in
         let p : t.place ≡ place + length first = ap (λ (x : Turn). x.place) et in
         ap (spliced out place) after
         ∙ sym (splices_join out place first second (omega (arith, ap length after, length-append first second)))

@@ -15,15 +15,15 @@ pub too_long : (input : List ℕ) → input_limit < length input → transcript_
 unfolding transcript_of
 too_long input h = rw (lt-ltb _ _ h)
 
-pub no_party : (input : List ℕ) → length input ≡ 0 → transcript_of input ≡ line truncated input
+pub no_party : (input : List ℕ) → length input < 1 → transcript_of input ≡ line truncated []
 unfolding transcript_of
 no_party [] e = refl
 no_party (party ∷ bytes) e = absurd (omega arith)
 
-pub requests : (input : List ℕ) → length input ≤ input_limit → (length input ≡ 0 → ⊥) → transcript_of input ≡ session fresh (get_or input 0 0) (drop 1 input)
+pub requests : (input : List ℕ) → length input ≤ input_limit → 1 ≤ length input → transcript_of input ≡ session fresh (get_or input 0 0) (drop 1 input)
 unfolding transcript_of
-requests [] h ne = absurd (ne refl)
-requests (party ∷ bytes) h ne = rw (le-ltb _ _ h)
+requests [] h some = absurd (omega arith)
+requests (party ∷ bytes) h some = rw (le-ltb _ _ h)
 
 -- what is written from the start on
 pub written : (input out text after : List ℕ) (n : ℕ) → transcript_of input ≡ text → n ≡ 0 + length text → after ≡ spliced out 0 text

@@ -2,6 +2,7 @@
 use Rattle.std.specs.Prelude.{ℕ, ◌+◌, Bool, cond, List, [], length, replicate}
 use Rattle.refusal.specs.First.{accepted}
 use Rattle.ads1299_registers.specs.Addresses.{channel_count}
+use Rattle.request.specs.declared.Request.{Request}
 use Rattle.request.specs.Reading.{parsed}
 use Rattle.ads1299.specs.declared.Converter.{Converter}
 use Rattle.ads1299.specs.State.{with_owners}
@@ -28,9 +29,13 @@ fresh = with_owners (powered_up id).converter (replicate channel_count owner)
 abbrev pub is_read : List ℕ → Bool
 is_read bytes = accepted (parsed bytes).refusal
 
--- gives the party's request as the planner gets it: the party is no part of the bytes, and there is always room
+-- gives a party's request as the planner gets it: there is always room
+abbrev pub asked : ℕ → Request → Submission
+asked party request = record { party = party; request = request; room = longest_plan }
+
+-- gives the party's request as the planner gets it: the party is no part of the bytes
 abbrev pub submitted : ℕ → List ℕ → Submission
-submitted party bytes = record { party = party; request = (parsed bytes).request; room = longest_plan }
+submitted party bytes = asked party (parsed bytes).request
 
 -- gives the line of an answered request
 abbrev pub answered : Converter → Submission → List ℕ

@@ -1,14 +1,18 @@
 // The program as one function on slices: what it prints for an input (document 01, "The program, and figures to check").
 #![tactic(auto)]
 
-ghost use Rattle.std.specs.Prelude.{◌≡◌, ◌+◌, ◌<◌, ◌≤◌, length};
+ghost use Rattle.std.specs.Prelude.{◌≡◌, ◌+◌, ◌<◌, ◌≤◌, [], length};
 ghost use Rattle.splice.specs.Splice.{spliced};
+ghost use Rattle.refusal.specs.Refusals.{number_of};
 ghost use Rattle.console.specs.Text.{hex_digit, decimal, hex, hexes};
 ghost use Rattle.console.specs.Line.{line};
-ghost use Rattle.console.specs.Turn.{fresh, printed, turn};
+ghost use Rattle.planner.specs.Planned.{planned};
+ghost use Rattle.console.specs.Turn.{fresh, asked, answered, printed, turn};
 ghost use Rattle.console.specs.Transcript.{session, transcript_of};
 
 use ads1299::Converter;
+use refusal::Refusal;
+use request::{Found, Request};
 
 // More input than this is refused whole.
 pub const INPUT_LIMIT: usize = 4096;
@@ -55,15 +59,13 @@ fn put_decimal(out: &mut [u8], at: usize, number: u8) -> usize
 }
 
 // Writes a blank and a byte's two digits.
+#[tactic(auto, using(splice::proofs::Splice::copied_to), unfolding(crate::specs::Text::hex))]
 fn put_hex(out: &mut [u8], at: usize, byte: u8)
     requires { at + 3 ≤ length out.old }
     ensures { out.new ≡ spliced out.old at (hex byte) }
 {
-    let high = hex_digit(byte / 16);
-    let low = hex_digit(byte % 16);
-    out[at] = b' ';
-    out[at + 1] = high;
-    out[at + 2] = low;
+    let digits = [b' ', hex_digit(byte / 16), hex_digit(byte % 16)];
+    out[at..at + 3].copy_from_slice(&digits);
 }
 
 // Writes bytes in hex, each after a blank, and gives the place after them.
@@ -72,11 +74,9 @@ fn put_hexes(out: &mut [u8], at: usize, bytes: &[u8]) -> usize
     ensures { (result ≡ at + length (hexes bytes.now)) × (out.new ≡ spliced out.old at (hexes bytes.now)) }
 {
     let mut place = at;
-    let mut i: usize = 0;
-    while i < bytes.len() {
-        put_hex(out, place, bytes[i]);
+    for byte in bytes {
+        put_hex(out, place, *byte);
         place += 3;
-        i += 1;
     }
     place
 }
@@ -92,16 +92,47 @@ fn put_line(out: &mut [u8], at: usize, number: u8, plan: &[u8]) -> usize
     end + 1
 }
 
+// Writes a refusal's line, and gives the place after it.
+fn put_refusal(out: &mut [u8], at: usize, refusal: Refusal) -> usize
+    requires { at + length (line (number_of refusal) []) ≤ length out.old }
+    ensures { (result ≡ at + length (line (number_of refusal) []))
+        × (out.new ≡ spliced out.old at (line (number_of refusal) [])) }
+{
+    put_line(out, at, u8::from(refusal), &[])
+}
+
 // The converter that the program begins with.
 fn start() -> Converter
     ensures { result ≡ fresh }
 {
-    let powered = Converter::power_up(ID);
-    let converter = powered.converter;
     let owners = [OWNER; ads1299_registers::CHANNELS];
+    let converter = Converter::power_up(ID).converter;
     Converter {
         owners,
         ..converter
+    }
+}
+
+// A request that was read, answered and printed: gives the place after its line, and the state that it leaves.
+fn put_answer(
+    converter: Converter,
+    party: u32,
+    request: Request,
+    out: &mut [u8],
+    at: usize,
+) -> (usize, Converter)
+    requires { at + length (answered converter (asked party request)) ≤ length out.old }
+    ensures { (result.0 ≡ at + length (answered converter (asked party request)))
+        × ((result.1 ≡ (planned converter (asked party request)).next)
+        × (out.new ≡ spliced out.old at (answered converter (asked party request)))) }
+{
+    let mut buffer = [0; planner::LONGEST];
+    match planner::plan(converter, party, request, &mut buffer, 0) {
+        Ok(plan) => {
+            let place = put_line(out, at, refusal::NONE, &buffer[..plan.length]);
+            (place, plan.next)
+        }
+        Err(refusal) => (put_refusal(out, at, refusal), converter),
     }
 }
 
@@ -111,24 +142,16 @@ fn answer(converter: Converter, party: u32, bytes: &[u8], out: &mut [u8], at: us
     ensures { (result ≡ turn converter party bytes.now at)
         × (out.new ≡ spliced out.old at (printed converter party bytes.now)) }
 {
-    let read = request::read(bytes);
-    let mut plan = [0u8; planner::LONGEST];
-    if read.refusal != refusal::NONE {
-        let place = put_line(out, at, read.refusal, &plan[..0]);
-        return Turn {
+    match request::read(bytes) {
+        Ok(Found { request, used }) => {
+            let (place, next) = put_answer(converter, party, request, out, at);
+            Turn { used, place, next }
+        }
+        Err(refusal) => Turn {
             used: bytes.len(),
-            place,
+            place: put_refusal(out, at, refusal),
             next: converter,
-        };
-    }
-    let planned = planner::plan(converter, party, read.request, &mut plan, 0);
-    let length = planned.length;
-    let place = put_line(out, at, planned.refusal, &plan[..length]);
-    let next = planned.next;
-    Turn {
-        used: read.used,
-        place,
-        next,
+        },
     }
 }
 
@@ -139,14 +162,13 @@ fn answer_all(party: u32, bytes: &[u8], out: &mut [u8]) -> usize
         × (out.new ≡ spliced out.old 0 (session fresh party bytes.now)) }
 {
     let mut converter = start();
-    let mut at: usize = 0;
-    let mut place: usize = 0;
-    while at < bytes.len() {
-        let turn = answer(converter, party, &bytes[at..], out, place);
-        let next = turn.next;
-        converter = next;
+    let mut rest = bytes;
+    let mut place = 0;
+    while !rest.is_empty() {
+        let turn = answer(converter, party, rest, out, place);
+        converter = turn.next;
         place = turn.place;
-        at += turn.used;
+        rest = &rest[turn.used..];
     }
     place
 }
@@ -157,11 +179,10 @@ pub fn transcript(input: &[u8], out: &mut [u8; LONGEST_TRANSCRIPT]) -> usize
         × (out.new ≡ spliced out.old 0 (transcript_of input.now)) }
 {
     if INPUT_LIMIT < input.len() {
-        return put_line(out, 0, refusal::INPUT_TOO_LONG, &input[0..0]);
+        return put_refusal(out, 0, Refusal::InputTooLong);
     }
-    if input.len() == 0 {
-        return put_line(out, 0, refusal::TRUNCATED, input);
+    match input {
+        [] => put_refusal(out, 0, Refusal::Truncated),
+        [party, requests @ ..] => answer_all(*party as u32, requests, out),
     }
-    let party = input[0] as u32;
-    answer_all(party, &input[1..], out)
 }

@@ -1,14 +1,14 @@
 -- The loop keeps that what is written, with the lines of the rest laid after it, is the whole transcript: nothing is said of the requests passed.
 use mathlib.Core.Path.{◌≡◌}
-use Prim.Native.Nat.{◌+◌, ◌-◌, ◌≤◌}
-use lib.ListN.{length, drop}
+use Prim.Native.Nat.{◌+◌}
+use lib.ListN.{length}
 use Rattle.splice.specs.Splice.{spliced}
 use Rattle.console.specs.Turn.{fresh}
 use Rattle.console.specs.Transcript.{session}
 use Rattle.console.proofs.answer_all.Given as goal
 
-abbrev pub invariant-loop-at : goal.invariant-loop-at
-invariant-loop-at l = (l.at ≤ length l.bytes) × ((length l.out ≡ length l.initial.out) × ((length (session fresh l.party l.bytes) ≡ l.place + length (session l.converter l.party (drop l.at l.bytes))) × (spliced l.initial.out 0 (session fresh l.party l.bytes) ≡ spliced l.out l.place (session l.converter l.party (drop l.at l.bytes)))))
+abbrev pub invariant-loop-rest : goal.invariant-loop-rest
+invariant-loop-rest l = (length (session fresh l.party l.bytes) ≡ l.place + length (session l.converter l.party l.rest)) × (spliced l.initial.out 0 (session fresh l.party l.bytes) ≡ spliced l.out l.place (session l.converter l.party l.rest))
 
-abbrev pub decreases-loop-at : goal.decreases-loop-at
-decreases-loop-at l = length l.bytes - l.at
+abbrev pub decreases-loop-rest : goal.decreases-loop-rest
+decreases-loop-rest l = length l.rest

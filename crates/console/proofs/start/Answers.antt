@@ -3,4 +3,4 @@ use Rattle.console.proofs.start.Goals as goal
 
 pub returns : goal.returns
 unfolding fresh
-returns c = simp (← c.power_up-powered.ensures)
+returns c = simp (← c.power_up.ensures)
