@@ -1,3 +1,6 @@
+pub mod Through
+pub mod Answered
+pub mod BenchAnswered
 pub mod Parts
 pub mod BenchParts
 pub mod HandsBack

@@ -1,4 +1,5 @@
 pub mod Answers
 pub mod BenchAnswers
+pub mod Results
 pub mod Claims
 pub mod BenchClaims

@@ -1,66 +1,174 @@
-// Answers that several calls share.
+// The flat answer for every case of what a call hands back. Where it is refused, the bytes that were given stand in it.
 ghost use Rattle.std.specs.Prelude.{◌≡◌};
-ghost use Rattle.refusal.specs.Numbers.{invalid_state};
-ghost use Rattle.capi.specs.Answers.{rejected, flat_reading, refused_reading, no_part};
-ghost use Rattle.capi.specs.BenchAnswers.{rejected_bench};
+ghost use Rattle.readings.specs.Answers.{reading_answer};
+ghost use Rattle.capi.specs.Answers.{flat_reading};
+ghost use Rattle.capi.specs.Results.{flat_step_answer, flat_moved_answer, flat_plan_answer, flat_part_answer, flat_bench_step_answer, flat_bench_moved_answer, flat_bench_plan_answer};
 
-use crate::{FlatBenchMoved, FlatMoved, FlatPart, FlatReading};
+use crate::{
+    FlatBenchMoved, FlatBenchPlanned, FlatBenchStepped, FlatMoved, FlatPart, FlatPlanned, FlatReading,
+    FlatStepped,
+};
+use ads1299::{Converter, Exchange};
 use ads1299_codes::Rail;
+use bench::{Bench, BenchExchange};
+use bench_planner::BenchPlan;
 use flat::FlatConverter;
 use flat_bench::FlatBench;
-use readings::Reading;
+use planner::ConverterPlan;
+use readings::Readout;
+use refusal::Refusal;
 
-// The answer to bytes that stand for no state: the same bytes.
-pub(crate) fn reject(state: FlatConverter) -> FlatMoved
-    ensures { result ≡ rejected state }
+// Where a channel's bytes lie in a frame.
+#[derive(Clone, Copy)]
+pub(crate) struct Located {
+    pub start: usize,
+    pub length: usize,
+}
+
+pub(crate) fn stepped(state: FlatConverter, stepped: Result<Exchange, Refusal>) -> FlatStepped
+    ensures { result ≡ flat_step_answer state stepped }
 {
-    FlatMoved {
-        refusal: refusal::INVALID_STATE,
-        next: state,
+    match stepped {
+        Ok(exchange) => FlatStepped {
+            refusal: refusal::NONE,
+            out: exchange.out,
+            next: FlatConverter::from(exchange.next),
+        },
+        Err(refusal) => FlatStepped {
+            refusal: u8::from(refusal),
+            out: 0,
+            next: state,
+        },
     }
 }
 
-pub(crate) fn reject_bench(bench: FlatBench) -> FlatBenchMoved
-    ensures { result ≡ rejected_bench bench }
+// A select rise, a sample and a grant.
+pub(crate) fn moved(state: FlatConverter, moved: Result<Converter, Refusal>) -> FlatMoved
+    ensures { result ≡ flat_moved_answer state moved }
 {
-    FlatBenchMoved {
-        refusal: refusal::INVALID_STATE,
-        next: bench,
+    match moved {
+        Ok(next) => FlatMoved {
+            refusal: refusal::NONE,
+            next: FlatConverter::from(next),
+        },
+        Err(refusal) => FlatMoved {
+            refusal: u8::from(refusal),
+            next: state,
+        },
     }
 }
 
-// A reading with its rail by number.
-pub(crate) fn flatten_reading(reading: Reading) -> FlatReading
-    ensures { result ≡ flat_reading reading }
+pub(crate) fn planned(state: FlatConverter, planned: Result<ConverterPlan, Refusal>) -> FlatPlanned
+    ensures { result ≡ flat_plan_answer state planned }
 {
-    let rail = reading.rail;
-    FlatReading {
-        refusal: reading.refusal,
-        p: flat::flag_code(reading.p),
-        n: flat::flag_code(reading.n),
-        rail: ads1299_codes::rail_number(rail),
-        code: reading.code,
+    match planned {
+        Ok(plan) => FlatPlanned {
+            refusal: refusal::NONE,
+            length: plan.length,
+            next: FlatConverter::from(plan.next),
+        },
+        Err(refusal) => FlatPlanned {
+            refusal: u8::from(refusal),
+            length: 0,
+            next: state,
+        },
     }
 }
 
-pub(crate) fn refuse_reading() -> FlatReading
-    ensures { result ≡ refused_reading invalid_state }
+// A refused reading is 0 but for its number.
+#[tactic(auto, unfolding(crate::specs::Answers::flat_reading))]
+pub(crate) fn reading(reading: Result<Readout, Refusal>) -> FlatReading
+    ensures { result ≡ flat_reading (reading_answer reading) }
 {
-    FlatReading {
-        refusal: refusal::INVALID_STATE,
-        p: 0,
-        n: 0,
-        rail: ads1299_codes::rail_number(Rail::Neither),
-        code: 0,
+    match reading {
+        Ok(readout) => FlatReading {
+            refusal: refusal::NONE,
+            p: u8::from(readout.p),
+            n: u8::from(readout.n),
+            rail: u8::from(readout.rail),
+            code: readout.code,
+        },
+        Err(refusal) => FlatReading {
+            refusal: u8::from(refusal),
+            p: 0,
+            n: 0,
+            rail: u8::from(Rail::Neither),
+            code: 0,
+        },
     }
 }
 
-pub(crate) fn refuse_part(number: u8) -> FlatPart
-    ensures { result ≡ no_part number }
+pub(crate) fn part(located: Result<Located, Refusal>) -> FlatPart
+    ensures { result ≡ flat_part_answer located }
 {
-    FlatPart {
-        refusal: number,
-        start: 0,
-        length: 0,
+    match located {
+        Ok(part) => FlatPart {
+            refusal: refusal::NONE,
+            start: part.start,
+            length: part.length,
+        },
+        Err(refusal) => FlatPart {
+            refusal: u8::from(refusal),
+            start: 0,
+            length: 0,
+        },
+    }
+}
+
+// The same of a bench: C has a struct of its own for each.
+pub(crate) fn bench_stepped(
+    bench: FlatBench,
+    stepped: Result<BenchExchange, Refusal>,
+) -> FlatBenchStepped
+    ensures { result ≡ flat_bench_step_answer bench stepped }
+{
+    match stepped {
+        Ok(exchange) => FlatBenchStepped {
+            refusal: refusal::NONE,
+            out: exchange.out,
+            next: FlatBench::from(exchange.next),
+        },
+        Err(refusal) => FlatBenchStepped {
+            refusal: u8::from(refusal),
+            out: 0,
+            next: bench,
+        },
+    }
+}
+
+pub(crate) fn bench_moved(bench: FlatBench, moved: Result<Bench, Refusal>) -> FlatBenchMoved
+    ensures { result ≡ flat_bench_moved_answer bench moved }
+{
+    match moved {
+        Ok(next) => FlatBenchMoved {
+            refusal: refusal::NONE,
+            next: FlatBench::from(next),
+        },
+        Err(refusal) => FlatBenchMoved {
+            refusal: u8::from(refusal),
+            next: bench,
+        },
+    }
+}
+
+pub(crate) fn bench_planned(
+    bench: FlatBench,
+    planned: Result<BenchPlan, Refusal>,
+) -> FlatBenchPlanned
+    ensures { result ≡ flat_bench_plan_answer bench planned }
+{
+    match planned {
+        Ok(plan) => FlatBenchPlanned {
+            refusal: refusal::NONE,
+            converter: plan.converter,
+            length: plan.length,
+            next: FlatBench::from(plan.next),
+        },
+        Err(refusal) => FlatBenchPlanned {
+            refusal: u8::from(refusal),
+            converter: 0,
+            length: 0,
+            next: bench,
+        },
     }
 }

@@ -15,10 +15,10 @@ use lines::CONVERTERS;
 pub extern "C" fn rimevelvet_bench_power_up(ids: &[u8; CONVERTERS]) -> FlatBenchPoweredUp
     ensures { result ≡ flat_bench_powered_up (bench_powered_up ids.now) }
 {
-    let powered = Bench::power_up(*ids);
+    let startup = Bench::power_up(*ids);
     FlatBenchPoweredUp {
-        refusal: powered.refusal,
-        bench: flat_bench::flatten(powered.bench),
+        refusal: startup.refusal.map_or(refusal::NONE, u8::from),
+        bench: FlatBench::from(startup.bench),
     }
 }
 
@@ -26,37 +26,16 @@ pub extern "C" fn rimevelvet_bench_power_up(ids: &[u8; CONVERTERS]) -> FlatBench
 pub extern "C" fn rimevelvet_bench_step(bench: FlatBench, number: u32, byte: u8) -> FlatBenchStepped
     ensures { result ≡ bench_stepped_from bench (bench_stepped (bench_of bench) number byte) }
 {
-    if flat_bench::is_bench(bench) {
-        let before = flat_bench::bench_of(bench);
-        let stepped = before.step(number, byte);
-        FlatBenchStepped {
-            refusal: stepped.refusal,
-            out: stepped.out,
-            next: flat_bench::flatten(stepped.next),
-        }
-    } else {
-        FlatBenchStepped {
-            refusal: refusal::INVALID_STATE,
-            out: 0,
-            next: bench,
-        }
-    }
+    let stepped = Bench::try_from(bench).and_then(|before| before.step(number, byte));
+    answers::bench_stepped(bench, stepped)
 }
 
 #[unsafe(no_mangle)]
 pub extern "C" fn rimevelvet_bench_deselect(bench: FlatBench, number: u32) -> FlatBenchMoved
     ensures { result ≡ bench_moved_from bench (bench_deselected (bench_of bench) number) }
 {
-    if flat_bench::is_bench(bench) {
-        let before = flat_bench::bench_of(bench);
-        let deselected = before.deselect(number);
-        FlatBenchMoved {
-            refusal: deselected.refusal,
-            next: flat_bench::flatten(deselected.next),
-        }
-    } else {
-        answers::reject_bench(bench)
-    }
+    let risen = Bench::try_from(bench).and_then(|before| before.deselect(number));
+    answers::bench_moved(bench, risen)
 }
 
 #[unsafe(no_mangle)]
@@ -69,14 +48,6 @@ pub extern "C" fn rimevelvet_bench_sample(
 ) -> FlatBenchMoved
     ensures { result ≡ bench_moved_from bench (bench_sampled (bench_of bench) number codes.now p n) }
 {
-    if flat_bench::is_bench(bench) {
-        let before = flat_bench::bench_of(bench);
-        let sampled = before.sample(number, codes, p, n);
-        FlatBenchMoved {
-            refusal: sampled.refusal,
-            next: flat_bench::flatten(sampled.next),
-        }
-    } else {
-        answers::reject_bench(bench)
-    }
+    let sampled = Bench::try_from(bench).and_then(|before| before.sample(number, codes, p, n));
+    answers::bench_moved(bench, sampled)
 }

@@ -4,12 +4,15 @@ ghost use Rattle.grants.specs.Grant.{granted};
 ghost use Rattle.readings.specs.Reading.{channel_reading};
 ghost use Rattle.flat.specs.States.{state_of};
 ghost use Rattle.capi.specs.Answers.{moved_from, reading_from, channel_part, part_from};
+ghost use Rattle.capi.specs.Results.{flat_part_answer};
 
 use super::answers;
+use super::answers::Located;
 use crate::{FlatMoved, FlatPart, FlatReading};
 use ads1299::Converter;
 use ads1299_codes::WORD_LENGTH;
 use flat::FlatConverter;
+use refusal::Refusal;
 
 #[unsafe(no_mangle)]
 pub extern "C" fn rimevelvet_grant(
@@ -20,16 +23,9 @@ pub extern "C" fn rimevelvet_grant(
 ) -> FlatMoved
     ensures { result ≡ moved_from state (granted (state_of state) caller receiver channel) }
 {
-    if flat::is_state(state) {
-        let before = flat::state_of(state);
-        let granted = grants::grant(before, caller, receiver, channel);
-        FlatMoved {
-            refusal: granted.refusal,
-            next: flat::flatten(granted.next),
-        }
-    } else {
-        answers::reject(state)
-    }
+    let granted = Converter::try_from(state)
+        .and_then(|before| grants::grant(before, caller, receiver, channel));
+    answers::moved(state, granted)
 }
 
 #[unsafe(no_mangle)]
@@ -41,28 +37,25 @@ pub extern "C" fn rimevelvet_read_channel(
 ) -> FlatReading
     ensures { result ≡ reading_from state (channel_reading (state_of state) party channel frame.now) }
 {
-    if flat::is_state(state) {
-        let reading = readings::read_channel(flat::state_of(state), party, channel, frame);
-        answers::flatten_reading(reading)
-    } else {
-        answers::refuse_reading()
-    }
+    let reading = Converter::try_from(state)
+        .and_then(|converter| readings::read_channel(converter, party, channel, frame));
+    answers::reading(reading)
 }
 
 // Where the part that readings::channel_bytes hands back lies in the frame.
-fn locate_part(converter: Converter, party: u32, channel: u32, frame: &[u8]) -> FlatPart
-    ensures { result ≡ channel_part converter party channel frame.now }
+fn locate_part(
+    converter: Converter,
+    party: u32,
+    channel: u32,
+    frame: &[u8],
+) -> Result<Located, Refusal>
+    ensures { flat_part_answer result ≡ channel_part converter party channel frame.now }
 {
-    let reading = readings::read_channel(converter, party, channel, frame);
-    if reading.refusal == refusal::NONE {
-        FlatPart {
-            refusal: refusal::NONE,
-            start: WORD_LENGTH * channel as usize,
-            length: readings::channel_bytes(converter, party, channel, frame).len(),
-        }
-    } else {
-        answers::refuse_part(reading.refusal)
-    }
+    readings::read_channel(converter, party, channel, frame)?;
+    Ok(Located {
+        start: WORD_LENGTH * channel as usize,
+        length: readings::channel_bytes(converter, party, channel, frame).len(),
+    })
 }
 
 #[unsafe(no_mangle)]
@@ -74,9 +67,7 @@ pub extern "C" fn rimevelvet_channel_bytes(
 ) -> FlatPart
     ensures { result ≡ part_from state (channel_part (state_of state) party channel frame.now) }
 {
-    if flat::is_state(state) {
-        locate_part(flat::state_of(state), party, channel, frame)
-    } else {
-        answers::refuse_part(refusal::INVALID_STATE)
-    }
+    let part = Converter::try_from(state)
+        .and_then(|converter| locate_part(converter, party, channel, frame));
+    answers::part(part)
 }

@@ -16,10 +16,10 @@ use flat::FlatConverter;
 pub extern "C" fn rimevelvet_power_up(id: u8) -> FlatPoweredUp
     ensures { result ≡ flat_powered_up (powered_up id) }
 {
-    let powered = Converter::power_up(id);
+    let startup = Converter::power_up(id);
     FlatPoweredUp {
-        refusal: powered.refusal,
-        converter: flat::flatten(powered.converter),
+        refusal: startup.refusal.map_or(refusal::NONE, u8::from),
+        converter: FlatConverter::from(startup.converter),
     }
 }
 
@@ -27,51 +27,22 @@ pub extern "C" fn rimevelvet_power_up(id: u8) -> FlatPoweredUp
 pub extern "C" fn rimevelvet_step(state: FlatConverter, byte: u8) -> FlatStepped
     ensures { result ≡ stepped_from state (stepped (state_of state) byte) }
 {
-    if flat::is_state(state) {
-        let before = flat::state_of(state);
-        let stepped = before.step(byte);
-        FlatStepped {
-            refusal: stepped.refusal,
-            out: stepped.out,
-            next: flat::flatten(stepped.next),
-        }
-    } else {
-        FlatStepped {
-            refusal: refusal::INVALID_STATE,
-            out: 0,
-            next: state,
-        }
-    }
+    let stepped = Converter::try_from(state).and_then(|before| before.step(byte));
+    answers::stepped(state, stepped)
 }
 
 #[unsafe(no_mangle)]
 pub extern "C" fn rimevelvet_deselect(state: FlatConverter) -> FlatMoved
     ensures { result ≡ moved_from state (deselected (state_of state)) }
 {
-    if flat::is_state(state) {
-        let before = flat::state_of(state);
-        let deselected = before.deselect();
-        FlatMoved {
-            refusal: deselected.refusal,
-            next: flat::flatten(deselected.next),
-        }
-    } else {
-        answers::reject(state)
-    }
+    let risen = Converter::try_from(state).and_then(|before| before.deselect());
+    answers::moved(state, risen)
 }
 
 #[unsafe(no_mangle)]
 pub extern "C" fn rimevelvet_sample(state: FlatConverter, codes: &[i32], p: u8, n: u8) -> FlatMoved
     ensures { result ≡ moved_from state (sampled (state_of state) codes.now p n) }
 {
-    if flat::is_state(state) {
-        let before = flat::state_of(state);
-        let sampled = before.sample(codes, p, n);
-        FlatMoved {
-            refusal: sampled.refusal,
-            next: flat::flatten(sampled.next),
-        }
-    } else {
-        answers::reject(state)
-    }
+    let sampled = Converter::try_from(state).and_then(|before| before.sample(codes, p, n));
+    answers::moved(state, sampled)
 }

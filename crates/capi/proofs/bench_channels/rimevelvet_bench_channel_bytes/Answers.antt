@@ -1,10 +1,11 @@
-use Rattle.capi.specs.BenchAnswers.{bench_part_from}
+use Rattle.std.proofs.Common.{rules, ◌∙◌}
+use Rattle.std.proofs.lemmas.Result.{MatchResult-weaker}
+use Rattle.capi.specs.BenchAnswers.{bench_part}
+use Rattle.capi.proofs.BenchAnswered.{bench_part_through}
 use Rattle.capi.proofs.bench_channels.rimevelvet_bench_channel_bytes.Goals as goal
 
-pub returns-then-is_bench : goal.returns-then-is_bench
-unfolding bench_part_from
-returns-then-is_bench c = simp (← c.is_bench.ensures, c.if-is_bench.true, ← c.bench_of.ensures, ← c.locate_part.ensures)
-
-pub returns-else-is_bench : goal.returns-else-is_bench
-unfolding bench_part_from
-returns-else-is_bench c = simp (← c.is_bench.ensures, c.if-is_bench.false, c.refuse_part.ensures)
+pub returns : goal.returns
+returns c =
+    c.part.ensures
+    ∙ bench_part_through c.args.bench (λ b. bench_part b c.args.number c.args.party c.args.channel c.args.frame.now) c.try_from.result c.and_then-part.result c.try_from.ensures
+    (MatchResult-weaker c.try_from.result c.and_then-part.ensures (λ b p. search rules) (λ e q. q))

@@ -1,10 +1,11 @@
-use Rattle.capi.specs.BenchAnswers.{bench_moved_from}
+use Rattle.std.proofs.Common.{rules, ◌∙◌}
+use Rattle.std.proofs.lemmas.Result.{MatchResult-weaker}
+use Rattle.bench_grants.specs.Grant.{bench_granted}
+use Rattle.capi.proofs.BenchAnswered.{bench_moved_through}
 use Rattle.capi.proofs.bench_channels.rimevelvet_bench_grant.Goals as goal
 
-pub returns-then-is_bench : goal.returns-then-is_bench
-unfolding bench_moved_from
-returns-then-is_bench c = simp (← c.is_bench.ensures, c.if-is_bench.true, ← c.bench_of-before.ensures, ← c.grant-granted.ensures, ← c.flatten.ensures)
-
-pub returns-else-is_bench : goal.returns-else-is_bench
-unfolding bench_moved_from
-returns-else-is_bench c = simp (← c.is_bench.ensures, c.if-is_bench.false, c.reject_bench.ensures)
+pub returns : goal.returns
+returns c =
+    c.bench_moved.ensures
+    ∙ bench_moved_through c.args.bench (search rules) (λ b. bench_granted b c.args.caller c.args.receiver c.args.channel) c.try_from.result c.and_then-granted.result c.try_from.ensures
+    (MatchResult-weaker c.try_from.result c.and_then-granted.ensures (λ b p. search rules) (λ e q. q))

@@ -1,10 +1,11 @@
-use Rattle.capi.specs.BenchAnswers.{bench_reading_from}
+use Rattle.std.proofs.Common.{rules, ◌∙◌}
+use Rattle.std.proofs.lemmas.Result.{MatchResult-weaker}
+use Rattle.bench_readings.specs.Reading.{bench_reading}
+use Rattle.capi.proofs.BenchAnswered.{bench_reading_through}
 use Rattle.capi.proofs.bench_channels.rimevelvet_bench_read_channel.Goals as goal
 
-pub returns-then-is_bench : goal.returns-then-is_bench
-unfolding bench_reading_from
-returns-then-is_bench c = simp (← c.is_bench.ensures, c.if-is_bench.true, ← c.bench_of-before.ensures, ← c.read_channel-reading.ensures, ← c.flatten_reading.ensures)
-
-pub returns-else-is_bench : goal.returns-else-is_bench
-unfolding bench_reading_from
-returns-else-is_bench c = simp (← c.is_bench.ensures, c.if-is_bench.false, ← c.refuse_reading.ensures)
+pub returns : goal.returns
+returns c =
+    c.reading.ensures
+    ∙ bench_reading_through c.args.bench (λ b. bench_reading b c.args.number c.args.party c.args.channel c.args.frame.now) c.try_from.result c.and_then-reading.result c.try_from.ensures
+    (MatchResult-weaker c.try_from.result c.and_then-reading.ensures (λ b p. search rules) (λ e q. q))

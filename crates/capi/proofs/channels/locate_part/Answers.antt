@@ -1,14 +1,20 @@
-use Rattle.capi.proofs.Parts.{part_taken, part_refused}
+use Rattle.std.proofs.Common.{sym, ap, ◌∙◌}
+use Rattle.std.proofs.lemmas.Result.{err_from_is_err_and}
+use Rattle.refusal.proofs.Laws.{refused_lem}
 use Rattle.readings.specs.Answers.{Reading}
-use borrow.Author.Tests.{ne_eqb}
-use mathlib.Core.Path.{sym, ap, ◌∙◌}
+use Rattle.capi.specs.Answers.{no_part}
+use Rattle.capi.proofs.Parts.{part_taken, part_refused}
 use Rattle.capi.proofs.channels.locate_part.Goals as goal
 
-pub returns-then-reading-eq-NONE : goal.returns-then-reading-eq-NONE
-returns-then-reading-eq-NONE c = let number = ap (λ (r : Reading). r.refusal) c.read_channel-reading.ensures in
-    simp (part_taken _ _ _ _ (sym number ∙ c.if-reading-eq-NONE.true), c.channel_bytes.ensures.0)
+pub returns : goal.returns
+returns c =
+    let a = c.args in
+    let number = ap (λ (r : Reading). r.refusal) (sym c.in_ok-read_channel.ensures) in
+    simp (part_taken a.converter a.party a.channel a.frame.now number, c.channel_bytes.ensures.0)
 
-pub returns-else-reading-eq-NONE : goal.returns-else-reading-eq-NONE
-returns-else-reading-eq-NONE c = let a = c.args in
-    let number = ap (λ (r : Reading). r.refusal) c.read_channel-reading.ensures in
-    simp (part_refused a.converter a.party a.channel a.frame.now (rw (sym number) (ne_eqb _ _ c.if-reading-eq-NONE.false)), c.refuse_part.ensures, number)
+pub returns-in_err-read_channel : goal.returns-in_err-read_channel
+returns-in_err-read_channel c =
+    let a = c.args in
+    let p = err_from_is_err_and c.from_residual.result c.from_residual.ensures.1 in
+    let number = ap (λ (r : Reading). r.refusal) (sym c.in_err-read_channel.ensures) in
+    rw (p.1, p.2) (sym (part_refused a.converter a.party a.channel a.frame.now (rw number (refused_lem c.in_err-read_channel.field-0.0)) ∙ ap no_part number))

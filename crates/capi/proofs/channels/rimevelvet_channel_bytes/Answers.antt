@@ -1,10 +1,11 @@
-use Rattle.capi.specs.Answers.{part_from}
+use Rattle.std.proofs.Common.{rules, ◌∙◌}
+use Rattle.std.proofs.lemmas.Result.{MatchResult-weaker}
+use Rattle.capi.specs.Answers.{channel_part}
+use Rattle.capi.proofs.Answered.{part_through}
 use Rattle.capi.proofs.channels.rimevelvet_channel_bytes.Goals as goal
 
-pub returns-then-is_state : goal.returns-then-is_state
-unfolding part_from
-returns-then-is_state c = simp (← c.is_state.ensures, c.if-is_state.true, ← c.state_of.ensures, ← c.locate_part.ensures)
-
-pub returns-else-is_state : goal.returns-else-is_state
-unfolding part_from
-returns-else-is_state c = simp (← c.is_state.ensures, c.if-is_state.false, c.refuse_part.ensures)
+pub returns : goal.returns
+returns c =
+    c.part.ensures
+    ∙ part_through c.args.state (λ s. channel_part s c.args.party c.args.channel c.args.frame.now) c.try_from.result c.and_then-part.result c.try_from.ensures
+    (MatchResult-weaker c.try_from.result c.and_then-part.ensures (λ s p. search rules) (λ e q. q))

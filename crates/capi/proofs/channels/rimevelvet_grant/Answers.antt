@@ -1,10 +1,11 @@
-use Rattle.capi.specs.Answers.{moved_from}
+use Rattle.std.proofs.Common.{rules, ◌∙◌}
+use Rattle.std.proofs.lemmas.Result.{MatchResult-weaker}
+use Rattle.grants.specs.Grant.{granted}
+use Rattle.capi.proofs.Answered.{moved_through}
 use Rattle.capi.proofs.channels.rimevelvet_grant.Goals as goal
 
-pub returns-then-is_state : goal.returns-then-is_state
-unfolding moved_from
-returns-then-is_state c = simp (← c.is_state.ensures, c.if-is_state.true, ← c.state_of-before.ensures, ← c.grant-granted.ensures, ← c.flatten.ensures)
-
-pub returns-else-is_state : goal.returns-else-is_state
-unfolding moved_from
-returns-else-is_state c = simp (← c.is_state.ensures, c.if-is_state.false, c.reject.ensures)
+pub returns : goal.returns
+returns c =
+    c.moved.ensures
+    ∙ moved_through c.args.state (λ s. granted s c.args.caller c.args.receiver c.args.channel) c.try_from.result c.and_then-granted.result c.try_from.ensures
+    (MatchResult-weaker c.try_from.result c.and_then-granted.ensures (λ s p. search rules) (λ e q. q))

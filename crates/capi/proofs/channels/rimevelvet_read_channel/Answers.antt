@@ -1,10 +1,11 @@
-use Rattle.capi.specs.Answers.{reading_from}
+use Rattle.std.proofs.Common.{rules, ◌∙◌}
+use Rattle.std.proofs.lemmas.Result.{MatchResult-weaker}
+use Rattle.readings.specs.Reading.{channel_reading}
+use Rattle.capi.proofs.Answered.{reading_through}
 use Rattle.capi.proofs.channels.rimevelvet_read_channel.Goals as goal
 
-pub returns-then-is_state : goal.returns-then-is_state
-unfolding reading_from
-returns-then-is_state c = simp (← c.is_state.ensures, c.if-is_state.true, ← c.state_of.ensures, ← c.read_channel-reading.ensures, ← c.flatten_reading.ensures)
-
-pub returns-else-is_state : goal.returns-else-is_state
-unfolding reading_from
-returns-else-is_state c = simp (← c.is_state.ensures, c.if-is_state.false, ← c.refuse_reading.ensures)
+pub returns : goal.returns
+returns c =
+    c.reading.ensures
+    ∙ reading_through c.args.state (λ s. channel_reading s c.args.party c.args.channel c.args.frame.now) c.try_from.result c.and_then-reading.result c.try_from.ensures
+    (MatchResult-weaker c.try_from.result c.and_then-reading.ensures (λ s p. search rules) (λ e q. q))

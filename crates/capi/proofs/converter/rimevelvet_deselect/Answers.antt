@@ -1,10 +1,11 @@
-use Rattle.capi.specs.Answers.{moved_from}
+use Rattle.std.proofs.Common.{rules, ◌∙◌}
+use Rattle.std.proofs.lemmas.Result.{MatchResult-weaker}
+use Rattle.ads1299.specs.Deselect.{deselected}
+use Rattle.capi.proofs.Answered.{moved_through}
 use Rattle.capi.proofs.converter.rimevelvet_deselect.Goals as goal
 
-pub returns-then-is_state : goal.returns-then-is_state
-unfolding moved_from
-returns-then-is_state c = simp (← c.is_state.ensures, c.if-is_state.true, ← c.state_of-before.ensures, ← c.deselect-deselected.ensures, ← c.flatten.ensures)
-
-pub returns-else-is_state : goal.returns-else-is_state
-unfolding moved_from
-returns-else-is_state c = simp (← c.is_state.ensures, c.if-is_state.false, c.reject.ensures)
+pub returns : goal.returns
+returns c =
+    c.moved.ensures
+    ∙ moved_through c.args.state (λ s. deselected s) c.try_from.result c.and_then-risen.result c.try_from.ensures
+    (MatchResult-weaker c.try_from.result c.and_then-risen.ensures (λ s p. search rules) (λ e q. q))
