@@ -16,8 +16,7 @@ use Rattle.ads1299_settings.specs.Settings.{Setting, Values, with_value, with_va
 use Rattle.ads1299_settings.proofs.Registers.{legal_settable}
 use Rattle.ads1299_settings.proofs.Settings.{unset_values}
 use Rattle.request.specs.declared.Request.{Request}
-use Rattle.request.specs.Requests.{most_values, value_count}
-use Rattle.request.proofs.Reading.{few_values}
+use Rattle.request.specs.Requests.{value_count}
 use Rattle.planner.specs.Settings.{setting_at, settings_from, settings, all_legal}
 use Rattle.parties.specs.Owners.{owner_of}
 use Rattle.planner.specs.Refusals.{field_owner}
@@ -83,10 +82,6 @@ unfolding settings
 settings_start r count e =
     let z : value_count r.field ≡ count - 0 = omega (arith, e) in
     ap (settings_from r 0) z
-
--- a value's place is within the array
-pub value_within : (r : Request) (count i : ℕ) → count ≡ value_count r.field → i < count → i < most_values
-value_within r count i e lt = omega (arith, e, (few_values r.field).1)
 
 pub settings_step : (r : Request) (count i : ℕ) → i < count → settings_from r i (count - i) ≡ setting_at r i ∷ settings_from r (i + 1) (count - (i + 1))
 unfolding settings_from
