@@ -25,11 +25,11 @@ pub record Moved : Type 0 where
   pub next : Converter
 
 -- gives the answer of power-up
-abbrev pub power_up_answer : Startup → PoweredUp
-power_up_answer a = record { refusal = number_in a.refusal; converter = a.converter }
+abbrev pub power_up_answer : Startup Converter → PoweredUp
+power_up_answer a = record { refusal = number_in a.refusal; converter = a.state }
 
 -- gives the answer to a byte in a state
-abbrev pub step_answer : Converter → Result Exchange Refusal → Stepped
+abbrev pub step_answer : Converter → Result (Exchange Converter) Refusal → Stepped
 step_answer s (Ok exchange) = record { refusal = none; out = exchange.out; next = exchange.next }
 step_answer s (Err refusal) = record { refusal = number_of refusal; out = 0; next = s }
 

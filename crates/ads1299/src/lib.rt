@@ -24,16 +24,17 @@ pub struct Converter {
     pub phase: Phase,
 }
 
-// What power-up answers. No Result: a refused power-up hands back a converter too (document 01, "Refusal numbers").
+// What power-up answers, of a converter or of several. No Result: a refused power-up hands back a state too (document 01, "Refusal
+// numbers").
 #[derive(Clone, Copy)]
-pub struct Startup {
+pub struct Startup<S> {
     pub refusal: Option<Refusal>,
-    pub converter: Converter,
+    pub state: S,
 }
 
-// The byte that goes out, and the converter after the byte that came in.
+// The byte that goes out, and the state after the byte that came in: a converter, or several.
 #[derive(Clone, Copy)]
-pub struct Exchange {
+pub struct Exchange<S> {
     pub out: u8,
-    pub next: Converter,
+    pub next: S,
 }

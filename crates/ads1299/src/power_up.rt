@@ -94,21 +94,20 @@ impl Converter {
         }
     }
 
-    pub fn power_up(id: u8) -> Startup
+    #[tactic(auto, unfolding(crate::specs::PowerUp::powered_up))]
+    pub fn power_up(id: u8) -> Startup<Converter>
         ensures { power_up_answer result ≡ powered_up id }
     {
         let owners = [parties::ADMIN; ads1299_registers::CHANNELS];
         if Self::is_valid_id(id) {
-            let converter = Self::restore(id, owners);
             Startup {
                 refusal: None,
-                converter,
+                state: Self::restore(id, owners),
             }
         } else {
-            let converter = Self::restore(0, owners);
             Startup {
                 refusal: Some(Refusal::InvalidState),
-                converter,
+                state: Self::restore(0, owners),
             }
         }
     }

@@ -177,7 +177,7 @@ impl Converter {
     }
 
     // Takes a byte in and gives one out.
-    pub fn step(self, byte: u8) -> Result<Exchange, Refusal>
+    pub fn step(self, byte: u8) -> Result<Exchange<Converter>, Refusal>
         ensures { step_answer self result ≡ stepped self byte }
     {
         if !self.is_valid() {
