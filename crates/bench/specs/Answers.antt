@@ -5,8 +5,8 @@ use Rattle.refusal.specs.Numbers.{none}
 use Rattle.refusal.specs.declared.Refusal.{Refusal}
 use Rattle.refusal.specs.Refusals.{number_of, number_in}
 use Rattle.bench.specs.declared.Bench.{Bench}
-use Rattle.bench.specs.declared.BenchStartup.{BenchStartup}
-use Rattle.bench.specs.declared.BenchExchange.{BenchExchange}
+use Rattle.ads1299.specs.declared.Startup.{Startup}
+use Rattle.ads1299.specs.declared.Exchange.{Exchange}
 
 -- of power-up, whose refusal too has a bench
 pub record BenchPoweredUp : Type 0 where
@@ -25,11 +25,11 @@ pub record BenchMoved : Type 0 where
   pub next : Bench
 
 -- gives the answer of power-up
-abbrev pub bench_power_up_answer : BenchStartup → BenchPoweredUp
-bench_power_up_answer a = record { refusal = number_in a.refusal; bench = a.bench }
+abbrev pub bench_power_up_answer : Startup Bench → BenchPoweredUp
+bench_power_up_answer a = record { refusal = number_in a.refusal; bench = a.state }
 
 -- gives the answer to a byte for one of a bench's converters
-abbrev pub bench_step_answer : Bench → Result BenchExchange Refusal → BenchStepped
+abbrev pub bench_step_answer : Bench → Result (Exchange Bench) Refusal → BenchStepped
 bench_step_answer b (Ok exchange) = record { refusal = none; out = exchange.out; next = exchange.next }
 bench_step_answer b (Err refusal) = record { refusal = number_of refusal; out = 0; next = b }
 

@@ -10,26 +10,11 @@ ghost use Rattle.bench.specs.Bench.{valid_bench};
 
 use ads1299::Converter;
 use lines::CONVERTERS;
-use refusal::Refusal;
 
 // Owners stay with each converter: four times eight are the bench's 32.
 #[derive(Clone, Copy)]
 pub struct Bench {
     pub converters: [Converter; CONVERTERS],
-}
-
-// What power-up answers. No Result: a refused power-up hands back a bench too, as that of one converter does.
-#[derive(Clone, Copy)]
-pub struct BenchStartup {
-    pub refusal: Option<Refusal>,
-    pub bench: Bench,
-}
-
-// The byte that goes out, and the bench after the byte that came in.
-#[derive(Clone, Copy)]
-pub struct BenchExchange {
-    pub out: u8,
-    pub next: Bench,
 }
 
 impl Bench {

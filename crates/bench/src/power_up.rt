@@ -4,8 +4,8 @@ ghost use Rattle.ads1299.specs.PowerUp.{valid_id};
 ghost use Rattle.bench.specs.Answers.{bench_power_up_answer};
 ghost use Rattle.bench.specs.PowerUp.{valid_ids, started, bench_powered_up};
 
-use crate::{Bench, BenchStartup};
-use ads1299::Converter;
+use crate::Bench;
+use ads1299::{Converter, Startup};
 use lines::CONVERTERS;
 use refusal::Refusal;
 
@@ -29,24 +29,24 @@ impl Bench {
         ensures { result ≡ started ids }
     {
         Bench {
-            converters: ids.map(|id| Converter::power_up(id).converter),
+            converters: ids.map(|id| Converter::power_up(id).state),
         }
     }
 
     // With a bad ID among them none is kept.
     #[tactic(auto, unfolding(crate::specs::PowerUp::bench_powered_up))]
-    pub fn power_up(ids: [u8; CONVERTERS]) -> BenchStartup
+    pub fn power_up(ids: [u8; CONVERTERS]) -> Startup<Bench>
         ensures { bench_power_up_answer result ≡ bench_powered_up ids }
     {
         if Self::are_valid_ids(ids) {
-            BenchStartup {
+            Startup {
                 refusal: None,
-                bench: Self::start(ids),
+                state: Self::start(ids),
             }
         } else {
-            BenchStartup {
+            Startup {
                 refusal: Some(Refusal::InvalidState),
-                bench: Self::start([0; CONVERTERS]),
+                state: Self::start([0; CONVERTERS]),
             }
         }
     }

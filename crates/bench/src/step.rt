@@ -5,7 +5,7 @@ ghost use Rattle.lines.specs.Lines.{converter_count};
 ghost use Rattle.bench.specs.Answers.{bench_step_answer, bench_moved_answer};
 ghost use Rattle.bench.specs.Line.{line_refusal, bench_stepped, bench_deselected, bench_sampled};
 
-use crate::{Bench, BenchExchange};
+use crate::Bench;
 use ads1299::Exchange;
 use refusal::Refusal;
 
@@ -27,13 +27,13 @@ impl Bench {
 
     // Takes a byte in for one converter and gives one out.
     #[tactic(auto, unfolding(crate::specs::Line::bench_stepped))]
-    pub fn step(mut self, number: u32, byte: u8) -> Result<BenchExchange, Refusal>
+    pub fn step(mut self, number: u32, byte: u8) -> Result<Exchange<Bench>, Refusal>
         ensures { bench_step_answer self result ≡ bench_stepped self number byte }
     {
         let k = self.line(number)?;
         let Exchange { out, next } = self.converters[k].step(byte)?;
         self.converters[k] = next;
-        Ok(BenchExchange { out, next: self })
+        Ok(Exchange { out, next: self })
     }
 
     // The select line of one converter rises.

@@ -21,7 +21,7 @@ use Rattle.capi.specs.Results.{flat_step_answer, flat_moved_answer, flat_plan_an
 use Rattle.capi.proofs.Through.{through}
 
 module _ (f : FlatConverter) where
-  step_kept : is_state f ≡ true → (r : Result Exchange Refusal) → flat_step_answer f r ≡ stepped_from f (step_answer (state_of f) r)
+  step_kept : is_state f ≡ true → (r : Result (Exchange Converter) Refusal) → flat_step_answer f r ≡ stepped_from f (step_answer (state_of f) r)
   unfolding stepped_from
   step_kept v (Ok exchange) = rw v refl
   step_kept v (Err refusal) = rw (v, round_trip.returns_flat f v) refl
@@ -36,7 +36,7 @@ module _ (f : FlatConverter) where
   plan_kept v (Ok plan) = rw v refl
   plan_kept v (Err refusal) = rw (v, round_trip.returns_flat f v) refl
 
-  pub step_through : (a : Converter → Stepped) (o : Result Converter Refusal) (r : Result Exchange Refusal)
+  pub step_through : (a : Converter → Stepped) (o : Result Converter Refusal) (r : Result (Exchange Converter) Refusal)
       → o ≡ state_in f → MatchResult o (λ s. step_answer s r ≡ a s) (λ e. r ≡ Err e)
       → flat_step_answer f r ≡ stepped_from f (a (state_of f))
   unfolding stepped_from state_in

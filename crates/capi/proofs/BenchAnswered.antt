@@ -5,7 +5,7 @@ use Rattle.std.specs.Prelude.{Result, Ok, Err, MatchResult, length}
 use Rattle.refusal.specs.declared.Refusal.{Refusal}
 use Rattle.lines.specs.Lines.{converter_count}
 use Rattle.bench.specs.declared.Bench.{Bench}
-use Rattle.bench.specs.declared.BenchExchange.{BenchExchange}
+use Rattle.ads1299.specs.declared.Exchange.{Exchange}
 use Rattle.bench.specs.Answers.{BenchStepped, BenchMoved, bench_step_answer, bench_moved_answer}
 use Rattle.readings.specs.declared.Readout.{Readout}
 use Rattle.readings.specs.Answers.{Reading, reading_answer}
@@ -22,7 +22,7 @@ use Rattle.capi.specs.Results.{flat_part_answer, flat_bench_step_answer, flat_be
 use Rattle.capi.proofs.Through.{through}
 
 module _ (f : FlatBench) (size : length f.converters ≡ converter_count) where
-  step_kept : is_bench f ≡ true → (r : Result BenchExchange Refusal)
+  step_kept : is_bench f ≡ true → (r : Result (Exchange Bench) Refusal)
       → flat_bench_step_answer f r ≡ bench_stepped_from f (bench_step_answer (bench_of f) r)
   unfolding bench_stepped_from
   step_kept v (Ok exchange) = rw v refl
@@ -40,7 +40,7 @@ module _ (f : FlatBench) (size : length f.converters ≡ converter_count) where
   plan_kept v (Ok plan) = rw v refl
   plan_kept v (Err refusal) = rw (v, round_trip.returns_flat f size v) refl
 
-  pub bench_step_through : (a : Bench → BenchStepped) (o : Result Bench Refusal) (r : Result BenchExchange Refusal)
+  pub bench_step_through : (a : Bench → BenchStepped) (o : Result Bench Refusal) (r : Result (Exchange Bench) Refusal)
       → o ≡ bench_in f → MatchResult o (λ b. bench_step_answer b r ≡ a b) (λ e. r ≡ Err e)
       → flat_bench_step_answer f r ≡ bench_stepped_from f (a (bench_of f))
   unfolding bench_stepped_from bench_in

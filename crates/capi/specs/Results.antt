@@ -7,7 +7,6 @@ use Rattle.ads1299.specs.declared.Converter.{Converter}
 use Rattle.ads1299.specs.declared.Exchange.{Exchange}
 use Rattle.planner.specs.declared.ConverterPlan.{ConverterPlan}
 use Rattle.bench.specs.declared.Bench.{Bench}
-use Rattle.bench.specs.declared.BenchExchange.{BenchExchange}
 use Rattle.bench_planner.specs.declared.BenchPlan.{BenchPlan}
 use Rattle.flat.specs.declared.FlatConverter.{FlatConverter}
 use Rattle.flat.specs.Flat.{flat}
@@ -24,7 +23,7 @@ use Rattle.capi.specs.declared.FlatBenchMoved.{FlatBenchMoved}
 use Rattle.capi.specs.declared.FlatBenchPlanned.{FlatBenchPlanned}
 
 -- gives the answer to a byte
-abbrev pub flat_step_answer : FlatConverter → Result Exchange Refusal → FlatStepped
+abbrev pub flat_step_answer : FlatConverter → Result (Exchange Converter) Refusal → FlatStepped
 flat_step_answer f (Ok exchange) = record { refusal = none; out = exchange.out; next = flat exchange.next }
 flat_step_answer f (Err refusal) = record { refusal = number_of refusal; out = 0; next = f }
 
@@ -44,7 +43,7 @@ flat_part_answer (Ok part) = record { refusal = none; start = part.start; length
 flat_part_answer (Err refusal) = no_part (number_of refusal)
 
 -- gives the answer to a byte for one of a bench's converters
-abbrev pub flat_bench_step_answer : FlatBench → Result BenchExchange Refusal → FlatBenchStepped
+abbrev pub flat_bench_step_answer : FlatBench → Result (Exchange Bench) Refusal → FlatBenchStepped
 flat_bench_step_answer f (Ok exchange) = record { refusal = none; out = exchange.out; next = flat_bench exchange.next }
 flat_bench_step_answer f (Err refusal) = record { refusal = number_of refusal; out = 0; next = f }
 

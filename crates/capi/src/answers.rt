@@ -5,12 +5,12 @@ ghost use Rattle.capi.specs.Answers.{flat_reading};
 ghost use Rattle.capi.specs.Results.{flat_step_answer, flat_moved_answer, flat_plan_answer, flat_part_answer, flat_bench_step_answer, flat_bench_moved_answer, flat_bench_plan_answer};
 
 use crate::{
-    FlatBenchMoved, FlatBenchPlanned, FlatBenchStepped, FlatMoved, FlatPart, FlatPlanned, FlatReading,
-    FlatStepped,
+    FlatBenchMoved, FlatBenchPlanned, FlatBenchStepped, FlatMoved, FlatPart, FlatPlanned,
+    FlatReading, FlatStepped,
 };
 use ads1299::{Converter, Exchange};
 use ads1299_codes::Rail;
-use bench::{Bench, BenchExchange};
+use bench::Bench;
 use bench_planner::BenchPlan;
 use flat::FlatConverter;
 use flat_bench::FlatBench;
@@ -25,7 +25,10 @@ pub(crate) struct Located {
     pub length: usize,
 }
 
-pub(crate) fn stepped(state: FlatConverter, stepped: Result<Exchange, Refusal>) -> FlatStepped
+pub(crate) fn stepped(
+    state: FlatConverter,
+    stepped: Result<Exchange<Converter>, Refusal>,
+) -> FlatStepped
     ensures { result ≡ flat_step_answer state stepped }
 {
     match stepped {
@@ -118,7 +121,7 @@ pub(crate) fn part(located: Result<Located, Refusal>) -> FlatPart
 // The same of a bench: C has a struct of its own for each.
 pub(crate) fn bench_stepped(
     bench: FlatBench,
-    stepped: Result<BenchExchange, Refusal>,
+    stepped: Result<Exchange<Bench>, Refusal>,
 ) -> FlatBenchStepped
     ensures { result ≡ flat_bench_step_answer bench stepped }
 {

@@ -23,8 +23,9 @@ pub extern "C" fn rimevelvet_bench_grant(
 ) -> FlatBenchMoved
     ensures { result ≡ bench_moved_from bench (bench_granted (bench_of bench) caller receiver channel) }
 {
-    let granted = Bench::try_from(bench)
-        .and_then(|before| bench_grants::grant(before, caller, receiver, channel));
+    let granted = Bench::try_from(bench).and_then(|before| bench_grants::grant(
+        before, caller, receiver, channel,
+    ));
     answers::bench_moved(bench, granted)
 }
 
@@ -38,8 +39,9 @@ pub extern "C" fn rimevelvet_bench_read_channel(
 ) -> FlatReading
     ensures { result ≡ bench_reading_from bench (bench_reading (bench_of bench) number party channel frame.now) }
 {
-    let reading = Bench::try_from(bench)
-        .and_then(|bench| bench_readings::read_channel(bench, number, party, channel, frame));
+    let reading = Bench::try_from(bench).and_then(|bench| bench_readings::read_channel(
+        bench, number, party, channel, frame,
+    ));
     answers::reading(reading)
 }
 
@@ -70,7 +72,8 @@ pub extern "C" fn rimevelvet_bench_channel_bytes(
 ) -> FlatPart
     ensures { result ≡ bench_part_from bench (bench_part (bench_of bench) number party channel frame.now) }
 {
-    let part = Bench::try_from(bench)
-        .and_then(|bench| locate_part(bench, number, party, channel, frame));
+    let part = Bench::try_from(bench).and_then(|bench| locate_part(
+        bench, number, party, channel, frame,
+    ));
     answers::part(part)
 }

@@ -18,7 +18,7 @@ pub extern "C" fn rimevelvet_bench_power_up(ids: &[u8; CONVERTERS]) -> FlatBench
     let startup = Bench::power_up(*ids);
     FlatBenchPoweredUp {
         refusal: startup.refusal.map_or(refusal::NONE, u8::from),
-        bench: FlatBench::from(startup.bench),
+        bench: FlatBench::from(startup.state),
     }
 }
 

@@ -23,8 +23,9 @@ pub extern "C" fn rimevelvet_grant(
 ) -> FlatMoved
     ensures { result ≡ moved_from state (granted (state_of state) caller receiver channel) }
 {
-    let granted = Converter::try_from(state)
-        .and_then(|before| grants::grant(before, caller, receiver, channel));
+    let granted = Converter::try_from(state).and_then(|before| grants::grant(
+        before, caller, receiver, channel,
+    ));
     answers::moved(state, granted)
 }
 
@@ -37,8 +38,9 @@ pub extern "C" fn rimevelvet_read_channel(
 ) -> FlatReading
     ensures { result ≡ reading_from state (channel_reading (state_of state) party channel frame.now) }
 {
-    let reading = Converter::try_from(state)
-        .and_then(|converter| readings::read_channel(converter, party, channel, frame));
+    let reading = Converter::try_from(state).and_then(|converter| readings::read_channel(
+        converter, party, channel, frame,
+    ));
     answers::reading(reading)
 }
 
@@ -67,7 +69,8 @@ pub extern "C" fn rimevelvet_channel_bytes(
 ) -> FlatPart
     ensures { result ≡ part_from state (channel_part (state_of state) party channel frame.now) }
 {
-    let part = Converter::try_from(state)
-        .and_then(|converter| locate_part(converter, party, channel, frame));
+    let part = Converter::try_from(state).and_then(|converter| locate_part(
+        converter, party, channel, frame,
+    ));
     answers::part(part)
 }

@@ -19,7 +19,7 @@ pub extern "C" fn rimevelvet_power_up(id: u8) -> FlatPoweredUp
     let startup = Converter::power_up(id);
     FlatPoweredUp {
         refusal: startup.refusal.map_or(refusal::NONE, u8::from),
-        converter: FlatConverter::from(startup.converter),
+        converter: FlatConverter::from(startup.state),
     }
 }
 

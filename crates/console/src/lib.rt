@@ -106,7 +106,7 @@ fn start() -> Converter
     ensures { result ≡ fresh }
 {
     let owners = [OWNER; ads1299_registers::CHANNELS];
-    let converter = Converter::power_up(ID).converter;
+    let converter = Converter::power_up(ID).state;
     Converter {
         owners,
         ..converter

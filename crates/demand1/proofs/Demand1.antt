@@ -6,7 +6,7 @@ use mathlib.Core.Bool.{Bool, true, false, cond, not, false≢true}
 use mathlib.Core.List.{List, [], ◌∷◌, ◌++◌, append-nil}
 use borrow.Author.Tests.{eqb-true, eqb-false, ne_eqb}
 use lib.Dec.{eqb, ltb}
-use lib.ListN.{length, drop}
+use lib.ListN.{length, drop, length-drop}
 use Rattle.cases.proofs.Cases.{split, either}
 use Rattle.refusal.specs.Numbers.{none, malformed, invalid_state}
 use Rattle.refusal.specs.First.{first_of, accepted, Exact}
@@ -130,7 +130,7 @@ module _ (s : Converter) (party : ℕ) (bytes : List ℕ) (some : 0 < length byt
       let n = (read_judges bytes).number in
       let f : is_read bytes ≡ false = ap accepted n ∙ e in
       one_by_one s party bytes some
-      ∙ rw f (ap (λ (l : List ℕ). line (parsed bytes).refusal [] ++ l) (no_more s party (length bytes) bytes (omega arith)) ∙ append-nil (line (parsed bytes).refusal []) ∙ ap (λ (m : ℕ). line m []) n)
+      ∙ rw f (ap (λ (l : List ℕ). line (parsed bytes).refusal [] ++ l) (no_more s party (drop (length bytes) bytes) (omega (arith, length-drop (length bytes) bytes))) ∙ append-nil (line (parsed bytes).refusal []) ∙ ap (λ (m : ℕ). line m []) n)
 
   request_refused : is_read bytes ≡ true → accepted (planned s (submitted party bytes)).refusal ≡ false
       → session s party bytes ≡ line (planned s (submitted party bytes)).refusal [] ++ session s party (drop (parsed bytes).used bytes)
