@@ -22,33 +22,27 @@ use Rattle.planner.specs.Submission.{Submission, room_at}
 use Rattle.planner.specs.Plan.{plan_writing, plan_of, plan_length}
 use Rattle.planner.specs.Planned.{refusal_of, changed, planned}
 use Rattle.planner.specs.Buffer.{tx_after}
+use Rattle.planner.specs.declared.Writer.{Writer}
+use Rattle.planner.specs.Wrote.{Wrote}
 use Rattle.planner.proofs.Accepted.{Passed, passed}
 use Rattle.planner.proofs.Length.{few_runs, plan_length_lem}
 
--- bytes lie in the buffer from a place on, and the next place is after them
-pub record Put (tx : List ℕ) (at : ℕ) (bytes after : List ℕ) (next : ℕ) : Type 0 where
-  pub place : next ≡ at + length bytes
-  pub buffer : after ≡ spliced tx at bytes
-
--- a contract's answer as that
-pub put : {tx : List ℕ} {at : ℕ} {bytes after : List ℕ} {next : ℕ} → (next ≡ at + length bytes) × (after ≡ spliced tx at bytes) → Put tx at bytes after next
-put e = record { place = e.0; buffer = e.1 }
-
-module _ {tx : List ℕ} {at : ℕ} {first one : List ℕ} {next : ℕ} (p : Put tx at first one next) where
-  pub put_size : at + length first ≤ length tx → length one ≡ length tx
-  put_size h = ap length p.buffer ∙ (fitting_laid tx at first h).size
+module _ {before middle : Writer} {first : List ℕ} (p : Wrote before middle first) where
+  wrote_size : before.place + length first ≤ length before.buffer.now → length middle.buffer.now ≡ length before.buffer.now
+  wrote_size h = ap length p.buffer ∙ (fitting_laid before.buffer.now before.place first h).size
 
   -- room that the buffer has beyond the bytes is left after them
-  pub put_room : (more : ℕ) → at + (length first + more) ≤ length tx → next + more ≤ length one
-  put_room more h = omega (arith, p.place, put_size (omega arith))
+  pub room_left : (more : ℕ) → before.place + (length first + more) ≤ length before.buffer.now → middle.place + more ≤ length middle.buffer.now
+  room_left more h = omega (arith, p.place, wrote_size (omega arith))
 
-  -- bytes put after bytes
-  pub put_both : {second two : List ℕ} {end : ℕ} → Put one next second two end → at + (length first + length second) ≤ length tx
-      → Put tx at (first ++ second) two end
-  put_both {second} {two} {end} q h =
+  -- bytes written after bytes
+  pub both : {after : Writer} {second : List ℕ} → Wrote middle after second → before.place + (length first + length second) ≤ length before.buffer.now
+      → Wrote before after (first ++ second)
+  both {after} {second} q h =
       record {
+        same = q.same ∙ p.same;
         place = q.place ∙ omega (arith, p.place, length-append first second);
-        buffer = q.buffer ∙ (λ i. spliced (p.buffer i) (p.place i) second) ∙ splices_join tx at first second h;
+        buffer = q.buffer ∙ (λ i. spliced (p.buffer i) (p.place i) second) ∙ splices_join before.buffer.now before.place first second h;
       }
 
 module _ (s : Converter) (x : Submission) (tx : List ℕ) (at : ℕ) where

@@ -12,3 +12,4 @@ pub mod Unused
 pub mod OneOwner
 pub mod Placement
 pub mod Figures
+pub mod Wrote

@@ -17,6 +17,7 @@ ghost use Rattle.planner.specs.Refusals.{field_owner};
 ghost use Rattle.planner.specs.Planned.{refusal_of, changed, planned};
 ghost use Rattle.planner.specs.Buffer.{tx_after};
 ghost use Rattle.planner.specs.Answers.{plan_answer};
+ghost use Rattle.planner.specs.Wrote.{Wrote};
 
 use ads1299::Converter;
 use ads1299_commands::{RDATAC, SDATAC, STANDBY, WAKEUP, WREG};
@@ -80,64 +81,67 @@ fn judge(c: Converter, party: u32, request: Request, room: usize) -> Result<(), 
     refusal::first_of(&tests)
 }
 
-// Writes bytes from a place on, and gives the place after them.
-fn put(tx: &mut [u8], at: usize, bytes: &[u8]) -> usize
-    requires { at + length bytes.now ≤ length tx.old }
-    ensures { (result ≡ at + length bytes.now) × (tx.new ≡ spliced tx.old at bytes.now) }
-{
-    tx[at..at + bytes.len()].copy_from_slice(bytes);
-    at + bytes.len()
+// A buffer that bytes are put in one after the other, and the place of the next.
+#[derive(Drop)]
+struct Writer<'a> {
+    buffer: &'a mut [u8],
+    place: usize,
 }
 
-// Writes a byte where it is wanted, and gives the place after it.
-fn put_only(tx: &mut [u8], at: usize, wanted: bool, byte: u8) -> usize
-    requires { at + length (only wanted byte) ≤ length tx.old }
-    ensures { (result ≡ at + length (only wanted byte)) × (tx.new ≡ spliced tx.old at (only wanted byte)) }
-{
-    if wanted {
-        tx[at] = byte;
-        at + 1
-    } else {
-        at
+impl Writer<'_> {
+    fn put(&mut self, bytes: &[u8])
+        requires { self.old.place + length bytes.now ≤ length self.old.buffer.now }
+        ensures { Wrote self.old self.new bytes.now }
+    {
+        let end = self.place + bytes.len();
+        self.buffer[self.place..end].copy_from_slice(bytes);
+        self.place = end;
     }
-}
 
-// Writes the bytes that write a run of registers, and gives the place after them.
-fn put_run(tx: &mut [u8], at: usize, registers: [u8; COUNT], first: u8, further: u8) -> usize
-    requires { (first + further < register_count) × (at + (3 + further) ≤ length tx.old) }
-    ensures { (result ≡ at + length (writing registers (run first further)))
-        × (tx.new ≡ spliced tx.old at (writing registers (run first further))) }
-{
-    let command = [WREG + first, further];
-    let data = put(tx, at, &command);
-    let start = first as usize;
-    let end = start + further as usize + 1;
-    put(tx, data, &registers[start..end])
-}
-
-// Writes the bytes that write 0D to 11, the registers with a bit for each channel, in one run, and gives the place after them.
-fn put_channel_bits(tx: &mut [u8], at: usize, registers: [u8; COUNT]) -> usize
-    requires { at + (3 + channel_bits.further) ≤ length tx.old }
-    ensures { (result ≡ at + length (writing registers channel_bits))
-        × (tx.new ≡ spliced tx.old at (writing registers channel_bits)) }
-{
-    let further = (LOFF_FLIP - BIAS_SENSP) as u8;
-    put_run(tx, at, registers, BIAS_SENSP as u8, further)
-}
-
-// Writes the bytes that write the request's runs, and gives the place after them.
-fn put_runs(tx: &mut [u8], at: usize, registers: [u8; COUNT], request: Request) -> usize
-    requires { (takes_channel request.field request.channel ≡ true) × (at + runs_length (runs request) ≤ length tx.old) }
-    ensures { (result ≡ at + length (writing_all registers (runs request)))
-        × (tx.new ≡ spliced tx.old at (writing_all registers (runs request))) }
-{
-    if request.field == WHOLE_CHANNEL {
-        let set = (CH1SET + request.channel as usize - 1) as u8;
-        let place = put_run(tx, at, registers, set, 0);
-        return put_channel_bits(tx, place, registers);
+    // Puts a byte where it is wanted.
+    fn put_only(&mut self, wanted: bool, byte: u8)
+        requires { self.old.place + length (only wanted byte) ≤ length self.old.buffer.now }
+        ensures { Wrote self.old self.new (only wanted byte) }
+    {
+        if wanted {
+            self.put(&[byte]);
+        }
     }
-    let place = ads1299_fields::locate(request.field, request.channel);
-    put_run(tx, at, registers, place.register, 0)
+
+    // Puts the bytes that write a run of registers.
+    fn put_run(&mut self, registers: [u8; COUNT], first: u8, further: u8)
+        requires { (first + further < register_count) × (self.old.place + (3 + further) ≤ length self.old.buffer.now) }
+        ensures { Wrote self.old self.new (writing registers (run first further)) }
+    {
+        self.put(&[WREG + first, further]);
+        let start = first as usize;
+        self.put(&registers[start..start + further as usize + 1]);
+    }
+
+    // Puts the bytes that write 0D to 11, the registers with a bit for each channel, in one run.
+    fn put_channel_bits(&mut self, registers: [u8; COUNT])
+        requires { self.old.place + (3 + channel_bits.further) ≤ length self.old.buffer.now }
+        ensures { Wrote self.old self.new (writing registers channel_bits) }
+    {
+        let further = (LOFF_FLIP - BIAS_SENSP) as u8;
+        self.put_run(registers, BIAS_SENSP as u8, further);
+    }
+
+    // Puts the bytes that write the request's runs.
+    fn put_runs(&mut self, registers: [u8; COUNT], request: Request)
+        requires { (takes_channel request.field request.channel ≡ true)
+            × (self.old.place + runs_length (runs request) ≤ length self.old.buffer.now) }
+        ensures { Wrote self.old self.new (writing_all registers (runs request)) }
+    {
+        if request.field == WHOLE_CHANNEL {
+            let set = (CH1SET + request.channel as usize - 1) as u8;
+            self.put_run(registers, set, 0);
+            self.put_channel_bits(registers);
+        } else {
+            let place = ads1299_fields::locate(request.field, request.channel);
+            self.put_run(registers, place.register, 0);
+        }
+    }
 }
 
 // The plan writer: the plan goes over the start of the part that it is lent. It is given the state after the plan, whose registers the runs
@@ -146,11 +150,15 @@ fn write_plan(part: &mut [u8], c: Converter, request: Request)
     requires { (takes_channel request.field request.channel ≡ true) × (plan_length c request ≤ length part.old) }
     ensures { part.new ≡ spliced part.old 0 (plan_writing c request c.registers) }
 {
-    let awake = put_only(part, 0, c.standby, WAKEUP);
-    let stopped = put_only(part, awake, c.continuous, SDATAC);
-    let written = put_runs(part, stopped, c.registers, request);
-    let started = put_only(part, written, c.continuous, RDATAC);
-    put_only(part, started, c.standby, STANDBY);
+    let mut out = Writer {
+        buffer: part,
+        place: 0,
+    };
+    out.put_only(c.standby, WAKEUP);
+    out.put_only(c.continuous, SDATAC);
+    out.put_runs(c.registers, request);
+    out.put_only(c.continuous, RDATAC);
+    out.put_only(c.standby, STANDBY);
 }
 
 // The state after the plan, without a byte sent: the settings made, and what was pending lost.

@@ -1,0 +1,10 @@
+-- What a writer has done.
+use Rattle.std.specs.Prelude.{ℕ, ◌+◌, ◌≡◌, List, length}
+use Rattle.splice.specs.Splice.{spliced}
+use Rattle.planner.specs.declared.Writer.{Writer}
+
+-- the bytes lie in the same buffer, from the place on, and the next place is after them
+pub record Wrote (before after : Writer) (bytes : List ℕ) : Type 0 where
+  pub same : after.buffer.ghost_name ≡ before.buffer.ghost_name
+  pub place : after.place ≡ before.place + length bytes
+  pub buffer : after.buffer.now ≡ spliced before.buffer.now before.place bytes
