@@ -34,6 +34,7 @@ pub struct BenchExchange {
 
 impl Bench {
     // Whether refusal 13 does not apply: it looks at all four.
+    #[tactic(auto, using(crate::proofs::Four::all_is_every), unfolding(crate::specs::Bench::valid_bench))]
     pub fn is_valid(self) -> bool
         ensures { result ≡ valid_bench self }
     {

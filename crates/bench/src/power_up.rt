@@ -10,12 +10,14 @@ use lines::CONVERTERS;
 use refusal::Refusal;
 
 impl Bench {
+    #[tactic(auto, unfolding(ads1299::specs::PowerUp::powered_up))]
     fn is_valid_id(id: u8) -> bool
         ensures { result ≡ valid_id id }
     {
         Converter::power_up(id).refusal.is_none()
     }
 
+    #[tactic(auto, using(crate::proofs::Four::all_is_every), unfolding(crate::specs::PowerUp::valid_ids))]
     fn are_valid_ids(ids: [u8; CONVERTERS]) -> bool
         ensures { result ≡ valid_ids ids }
     {

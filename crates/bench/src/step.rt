@@ -3,11 +3,10 @@ ghost use Rattle.std.specs.Prelude.{◌≡◌, ◌<◌, IfOk};
 ghost use Rattle.refusal.specs.Refusals.{answer_number};
 ghost use Rattle.lines.specs.Lines.{converter_count};
 ghost use Rattle.bench.specs.Answers.{bench_step_answer, bench_moved_answer};
-ghost use Rattle.bench.specs.Bench.{with_converter};
 ghost use Rattle.bench.specs.Line.{line_refusal, bench_stepped, bench_deselected, bench_sampled};
 
 use crate::{Bench, BenchExchange};
-use ads1299::{Converter, Exchange};
+use ads1299::Exchange;
 use refusal::Refusal;
 
 impl Bench {
@@ -26,41 +25,36 @@ impl Bench {
         Ok(number as usize)
     }
 
-    fn with(mut self, k: usize, converter: Converter) -> Bench
-        requires { k < converter_count }
-        ensures { result ≡ with_converter self k converter }
-    {
-        self.converters[k] = converter;
-        self
-    }
-
     // Takes a byte in for one converter and gives one out.
-    pub fn step(self, number: u32, byte: u8) -> Result<BenchExchange, Refusal>
+    #[tactic(auto, unfolding(crate::specs::Line::bench_stepped))]
+    pub fn step(mut self, number: u32, byte: u8) -> Result<BenchExchange, Refusal>
         ensures { bench_step_answer self result ≡ bench_stepped self number byte }
     {
         let k = self.line(number)?;
         let Exchange { out, next } = self.converters[k].step(byte)?;
-        Ok(BenchExchange {
-            out,
-            next: self.with(k, next),
-        })
+        self.converters[k] = next;
+        Ok(BenchExchange { out, next: self })
     }
 
     // The select line of one converter rises.
-    pub fn deselect(self, number: u32) -> Result<Bench, Refusal>
+    #[tactic(auto, unfolding(crate::specs::Line::bench_deselected))]
+    pub fn deselect(mut self, number: u32) -> Result<Bench, Refusal>
         ensures { bench_moved_answer self result ≡ bench_deselected self number }
     {
         let k = self.line(number)?;
         let risen = self.converters[k].deselect()?;
-        Ok(self.with(k, risen))
+        self.converters[k] = risen;
+        Ok(self)
     }
 
     // One converter takes a sample.
-    pub fn sample(self, number: u32, codes: &[i32], p: u8, n: u8) -> Result<Bench, Refusal>
+    #[tactic(auto, using(crate::proofs::Converters::with_same), unfolding(crate::specs::Line::bench_sampled))]
+    pub fn sample(mut self, number: u32, codes: &[i32], p: u8, n: u8) -> Result<Bench, Refusal>
         ensures { bench_moved_answer self result ≡ bench_sampled self number codes.now p n }
     {
         let k = self.line(number)?;
         let sampled = self.converters[k].sample(codes, p, n)?;
-        Ok(self.with(k, sampled))
+        self.converters[k] = sampled;
+        Ok(self)
     }
 }

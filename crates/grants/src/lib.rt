@@ -46,6 +46,7 @@ fn reassign(mut converter: Converter, channel: u32, receiver: u32) -> Converter
 }
 
 // Gives a channel to a party. Only the administrator may, and it may whatever the converter is doing.
+#[tactic(auto, using(crate::proofs::Accepted::grantable), unfolding(crate::specs::Grant::granted))]
 pub fn grant(
     converter: Converter,
     caller: u32,

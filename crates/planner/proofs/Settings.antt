@@ -1,11 +1,12 @@
 -- A request's settings, from the request: what holds for the one field, or for each of a channel's nine, holds for them all.
 use Prim.Native.Nat.{ℕ, zero, suc, ◌+◌, ◌-◌, ◌≤◌, ◌<◌}
 use mathlib.Core.Path.{◌≡◌, refl, sym, ◌∙◌, ap}
-use mathlib.Core.Bool.{Bool, true, false, false≢true}
+use mathlib.Core.Bool.{Bool, true, false, false≢true, ◌&&◌}
 use mathlib.Core.List.{List, [], ◌∷◌}
 use native.Mathlib.Omega.{arith}
 use borrow.Author.Tests.{eqb-true, eqb-false, eq-eqb, ne_eqb}
 use lib.Dec.{eqb}
+use Rattle.std.specs.List.{list_all, range_with_len}
 use Rattle.cases.specs.Every.{every, any_of}
 use Rattle.cases.proofs.Cases.{split, and_both}
 use Rattle.ads1299_registers.specs.Channels.{is_channel}
@@ -15,8 +16,7 @@ use Rattle.ads1299_settings.specs.Settings.{Setting, Values, with_value, with_va
 use Rattle.ads1299_settings.proofs.Registers.{legal_settable}
 use Rattle.ads1299_settings.proofs.Settings.{unset_values}
 use Rattle.request.specs.declared.Request.{Request}
-use Rattle.request.specs.Requests.{most_values, value_count}
-use Rattle.request.proofs.Reading.{few_values}
+use Rattle.request.specs.Requests.{value_count}
 use Rattle.planner.specs.Settings.{setting_at, settings_from, settings, all_legal}
 use Rattle.parties.specs.Owners.{owner_of}
 use Rattle.planner.specs.Refusals.{field_owner}
@@ -70,16 +70,18 @@ all_settable_lem n (a ∷ rest) names values =
     let l = and_both (legal a.field a.value) (all_legal rest) values in
     rw (legal_settable a.field n a.value k.0 l.0, all_settable_lem n rest k.1 l.1)
 
+-- the definition goes setting by setting, the code asks std's test of all values' places
+pub legal_all : (r : Request) (more i : ℕ) → list_all (λ k. legal (setting_at r k).field (setting_at r k).value) (range_with_len i more) ≡ all_legal (settings_from r i more)
+unfolding settings_from
+legal_all r zero i = refl
+legal_all r (suc more) i = ap (λ b. legal (setting_at r i).field (setting_at r i).value && b) (legal_all r more (i + 1))
+
 -- the settings one by one, as the code goes through them
 pub settings_start : (r : Request) (count : ℕ) → count ≡ value_count r.field → settings r ≡ settings_from r 0 (count - 0)
 unfolding settings
 settings_start r count e =
     let z : value_count r.field ≡ count - 0 = omega (arith, e) in
     ap (settings_from r 0) z
-
--- a value's place is within the array
-pub value_within : (r : Request) (count i : ℕ) → count ≡ value_count r.field → i < count → i < most_values
-value_within r count i e lt = omega (arith, e, (few_values r.field).1)
 
 pub settings_step : (r : Request) (count i : ℕ) → i < count → settings_from r i (count - i) ≡ setting_at r i ∷ settings_from r (i + 1) (count - (i + 1))
 unfolding settings_from

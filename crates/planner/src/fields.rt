@@ -25,12 +25,7 @@ pub(crate) fn are_legal(request: Request) -> bool
     ensures { result ≡ all_legal (settings request) }
 {
     let count = request::count_values(request.field);
-    for i in 0..count {
-        if !ads1299_fields::is_legal(field_at(request, i), request.values[i]) {
-            return false;
-        }
-    }
-    true
+    (0..count).all(|i| ads1299_fields::is_legal(field_at(request, i), request.values[i]))
 }
 
 // The registers with every setting of the request made.

@@ -44,6 +44,7 @@ fn judge_reading(
 }
 
 // Reads a channel from a frame, for its owner alone: the administrator too reads only its own.
+#[tactic(auto, unfolding(ads1299_codes::specs::Rails::decoded, ads1299_readout::specs::Reading::rail_at, crate::specs::Reading::channel_reading))]
 pub fn read_channel(
     converter: Converter,
     party: u32,
@@ -64,6 +65,7 @@ pub fn read_channel(
 
 // The channel's three bytes as a part of the caller's own frame, not a copy; an empty part where read_channel refuses. Which
 // empty part is left open by document 01: the one at the frame's start was chosen.
+#[tactic(auto, using(ads1299_registers::proofs::Bounds::bounds, crate::proofs::Accepted::readable, crate::proofs::Accepted::frame_whole), unfolding(crate::specs::Reading::part_bytes, crate::specs::Reading::part_place, ads1299_readout::specs::Reading::channel_bytes))]
 pub fn channel_bytes(converter: Converter, party: u32, channel: u32, frame: &[u8]) -> &[u8]
     ensures { (result.now ≡ part_bytes converter party channel frame.now)
         × (result.ref_ptr ≡ (frame.entry.ref_ptr.0, part_place converter party channel frame.now + frame.entry.ref_ptr.1)) }
