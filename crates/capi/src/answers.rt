@@ -2,18 +2,12 @@
 ghost use Rattle.std.specs.Prelude.{◌≡◌};
 ghost use Rattle.readings.specs.Answers.{reading_answer};
 ghost use Rattle.capi.specs.Answers.{flat_reading};
-ghost use Rattle.capi.specs.Results.{flat_step_answer, flat_moved_answer, flat_plan_answer, flat_part_answer, flat_bench_step_answer, flat_bench_moved_answer, flat_bench_plan_answer};
+ghost use Rattle.capi.specs.Results.{flat_step_answer, flat_moved_answer, flat_plan_answer, flat_part_answer};
 
-use crate::{
-    FlatBenchMoved, FlatBenchPlanned, FlatBenchStepped, FlatMoved, FlatPart, FlatPlanned,
-    FlatReading, FlatStepped,
-};
+use crate::{FlatMoved, FlatPart, FlatPlanned, FlatReading, FlatStepped};
 use ads1299::{Converter, Exchange};
 use ads1299_codes::Rail;
-use bench::Bench;
-use bench_planner::BenchPlan;
 use flat::FlatConverter;
-use flat_bench::FlatBench;
 use planner::ConverterPlan;
 use readings::Readout;
 use refusal::Refusal;
@@ -25,10 +19,7 @@ pub(crate) struct Located {
     pub length: usize,
 }
 
-pub(crate) fn stepped(
-    state: FlatConverter,
-    stepped: Result<Exchange<Converter>, Refusal>,
-) -> FlatStepped
+pub(crate) fn stepped(state: FlatConverter, stepped: Result<Exchange<Converter>, Refusal>) -> FlatStepped
     ensures { result ≡ flat_step_answer state stepped }
 {
     match stepped {
@@ -114,64 +105,6 @@ pub(crate) fn part(located: Result<Located, Refusal>) -> FlatPart
             refusal: u8::from(refusal),
             start: 0,
             length: 0,
-        },
-    }
-}
-
-// The same of a bench: C has a struct of its own for each.
-pub(crate) fn bench_stepped(
-    bench: FlatBench,
-    stepped: Result<Exchange<Bench>, Refusal>,
-) -> FlatBenchStepped
-    ensures { result ≡ flat_bench_step_answer bench stepped }
-{
-    match stepped {
-        Ok(exchange) => FlatBenchStepped {
-            refusal: refusal::NONE,
-            out: exchange.out,
-            next: FlatBench::from(exchange.next),
-        },
-        Err(refusal) => FlatBenchStepped {
-            refusal: u8::from(refusal),
-            out: 0,
-            next: bench,
-        },
-    }
-}
-
-pub(crate) fn bench_moved(bench: FlatBench, moved: Result<Bench, Refusal>) -> FlatBenchMoved
-    ensures { result ≡ flat_bench_moved_answer bench moved }
-{
-    match moved {
-        Ok(next) => FlatBenchMoved {
-            refusal: refusal::NONE,
-            next: FlatBench::from(next),
-        },
-        Err(refusal) => FlatBenchMoved {
-            refusal: u8::from(refusal),
-            next: bench,
-        },
-    }
-}
-
-pub(crate) fn bench_planned(
-    bench: FlatBench,
-    planned: Result<BenchPlan, Refusal>,
-) -> FlatBenchPlanned
-    ensures { result ≡ flat_bench_plan_answer bench planned }
-{
-    match planned {
-        Ok(plan) => FlatBenchPlanned {
-            refusal: refusal::NONE,
-            converter: plan.converter,
-            length: plan.length,
-            next: FlatBench::from(plan.next),
-        },
-        Err(refusal) => FlatBenchPlanned {
-            refusal: u8::from(refusal),
-            converter: 0,
-            length: 0,
-            next: bench,
         },
     }
 }

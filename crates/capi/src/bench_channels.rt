@@ -6,11 +6,12 @@ ghost use Rattle.flat_bench.specs.Flat.{bench_of};
 ghost use Rattle.capi.specs.BenchAnswers.{bench_moved_from, bench_reading_from, bench_part, bench_part_from};
 ghost use Rattle.capi.specs.Results.{flat_part_answer};
 
-use super::answers;
-use super::answers::Located;
+use super::answers::{self, Located};
+use super::bench_answers;
 use crate::{FlatBenchMoved, FlatPart, FlatReading};
 use ads1299_codes::WORD_LENGTH;
 use bench::Bench;
+use bench_readings::read_channel;
 use flat_bench::FlatBench;
 use refusal::Refusal;
 
@@ -23,10 +24,9 @@ pub extern "C" fn rimevelvet_bench_grant(
 ) -> FlatBenchMoved
     ensures { result ≡ bench_moved_from bench (bench_granted (bench_of bench) caller receiver channel) }
 {
-    let granted = Bench::try_from(bench).and_then(|before| bench_grants::grant(
-        before, caller, receiver, channel,
-    ));
-    answers::bench_moved(bench, granted)
+    let given = Bench::try_from(bench);
+    let granted = given.and_then(|before| bench_grants::grant(before, caller, receiver, channel));
+    bench_answers::moved(bench, granted)
 }
 
 #[unsafe(no_mangle)]
@@ -39,9 +39,8 @@ pub extern "C" fn rimevelvet_bench_read_channel(
 ) -> FlatReading
     ensures { result ≡ bench_reading_from bench (bench_reading (bench_of bench) number party channel frame.now) }
 {
-    let reading = Bench::try_from(bench).and_then(|bench| bench_readings::read_channel(
-        bench, number, party, channel, frame,
-    ));
+    let given = Bench::try_from(bench);
+    let reading = given.and_then(|before| read_channel(before, number, party, channel, frame));
     answers::reading(reading)
 }
 
@@ -55,7 +54,7 @@ fn locate_part(
 ) -> Result<Located, Refusal>
     ensures { flat_part_answer result ≡ bench_part bench number party channel frame.now }
 {
-    bench_readings::read_channel(bench, number, party, channel, frame)?;
+    read_channel(bench, number, party, channel, frame)?;
     Ok(Located {
         start: WORD_LENGTH * lines::channel_on(number, channel) as usize,
         length: bench_readings::channel_bytes(bench, number, party, channel, frame).len(),
@@ -72,8 +71,7 @@ pub extern "C" fn rimevelvet_bench_channel_bytes(
 ) -> FlatPart
     ensures { result ≡ bench_part_from bench (bench_part (bench_of bench) number party channel frame.now) }
 {
-    let part = Bench::try_from(bench).and_then(|bench| locate_part(
-        bench, number, party, channel, frame,
-    ));
+    let given = Bench::try_from(bench);
+    let part = given.and_then(|before| locate_part(before, number, party, channel, frame));
     answers::part(part)
 }

@@ -5,7 +5,7 @@ ghost use Rattle.bench.specs.Line.{bench_stepped, bench_deselected, bench_sample
 ghost use Rattle.flat_bench.specs.Flat.{bench_of};
 ghost use Rattle.capi.specs.BenchAnswers.{flat_bench_powered_up, bench_stepped_from, bench_moved_from};
 
-use super::answers;
+use super::bench_answers;
 use crate::{FlatBenchMoved, FlatBenchPoweredUp, FlatBenchStepped};
 use bench::Bench;
 use flat_bench::FlatBench;
@@ -27,7 +27,7 @@ pub extern "C" fn rimevelvet_bench_step(bench: FlatBench, number: u32, byte: u8)
     ensures { result ≡ bench_stepped_from bench (bench_stepped (bench_of bench) number byte) }
 {
     let stepped = Bench::try_from(bench).and_then(|before| before.step(number, byte));
-    answers::bench_stepped(bench, stepped)
+    bench_answers::stepped(bench, stepped)
 }
 
 #[unsafe(no_mangle)]
@@ -35,7 +35,7 @@ pub extern "C" fn rimevelvet_bench_deselect(bench: FlatBench, number: u32) -> Fl
     ensures { result ≡ bench_moved_from bench (bench_deselected (bench_of bench) number) }
 {
     let risen = Bench::try_from(bench).and_then(|before| before.deselect(number));
-    answers::bench_moved(bench, risen)
+    bench_answers::moved(bench, risen)
 }
 
 #[unsafe(no_mangle)]
@@ -49,5 +49,5 @@ pub extern "C" fn rimevelvet_bench_sample(
     ensures { result ≡ bench_moved_from bench (bench_sampled (bench_of bench) number codes.now p n) }
 {
     let sampled = Bench::try_from(bench).and_then(|before| before.sample(number, codes, p, n));
-    answers::bench_moved(bench, sampled)
+    bench_answers::moved(bench, sampled)
 }

@@ -7,7 +7,7 @@ ghost use Rattle.flat_bench.specs.Flat.{bench_of};
 ghost use Rattle.capi.specs.BenchAnswers.{bench_planned_from, bench_buffer_from};
 ghost use Rattle.capi.specs.Results.{flat_bench_plan_answer};
 
-use super::answers;
+use super::bench_answers;
 use crate::FlatBenchPlanned;
 use bench::Bench;
 use bench_planner::BenchPlan;
@@ -42,5 +42,5 @@ pub extern "C" fn rimevelvet_bench_plan(
         × (tx.new ≡ bench_buffer_from bench (bench_tx_after (bench_of bench) (submission party request tx.old at) tx.old at) tx.old) }
 {
     let planned = plan(bench, party, request, tx, at);
-    answers::bench_planned(bench, planned)
+    bench_answers::planned(bench, planned)
 }

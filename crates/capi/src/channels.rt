@@ -6,8 +6,7 @@ ghost use Rattle.flat.specs.States.{state_of};
 ghost use Rattle.capi.specs.Answers.{moved_from, reading_from, channel_part, part_from};
 ghost use Rattle.capi.specs.Results.{flat_part_answer};
 
-use super::answers;
-use super::answers::Located;
+use super::answers::{self, Located};
 use crate::{FlatMoved, FlatPart, FlatReading};
 use ads1299::Converter;
 use ads1299_codes::WORD_LENGTH;
@@ -23,9 +22,8 @@ pub extern "C" fn rimevelvet_grant(
 ) -> FlatMoved
     ensures { result ≡ moved_from state (granted (state_of state) caller receiver channel) }
 {
-    let granted = Converter::try_from(state).and_then(|before| grants::grant(
-        before, caller, receiver, channel,
-    ));
+    let given = Converter::try_from(state);
+    let granted = given.and_then(|before| grants::grant(before, caller, receiver, channel));
     answers::moved(state, granted)
 }
 
@@ -38,9 +36,8 @@ pub extern "C" fn rimevelvet_read_channel(
 ) -> FlatReading
     ensures { result ≡ reading_from state (channel_reading (state_of state) party channel frame.now) }
 {
-    let reading = Converter::try_from(state).and_then(|converter| readings::read_channel(
-        converter, party, channel, frame,
-    ));
+    let given = Converter::try_from(state);
+    let reading = given.and_then(|before| readings::read_channel(before, party, channel, frame));
     answers::reading(reading)
 }
 
@@ -69,8 +66,7 @@ pub extern "C" fn rimevelvet_channel_bytes(
 ) -> FlatPart
     ensures { result ≡ part_from state (channel_part (state_of state) party channel frame.now) }
 {
-    let part = Converter::try_from(state).and_then(|converter| locate_part(
-        converter, party, channel, frame,
-    ));
+    let given = Converter::try_from(state);
+    let part = given.and_then(|before| locate_part(before, party, channel, frame));
     answers::part(part)
 }

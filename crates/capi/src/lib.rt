@@ -3,6 +3,7 @@
 #![tactic(auto)]
 
 mod answers;
+mod bench_answers;
 mod bench_channels;
 mod bench_lines;
 mod bench_requests;

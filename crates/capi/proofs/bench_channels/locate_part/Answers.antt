@@ -10,7 +10,7 @@ pub returns : goal.returns
 returns c =
     let a = c.args in
     let number = ap (λ (r : Reading). r.refusal) (sym c.in_ok-read_channel.ensures) in
-    simp (bench_part_taken a.bench a.number a.party a.channel a.frame.now number, c.channel_bytes.ensures.0)
+    simp (bench_part_taken a.bench a.number a.party a.channel a.frame.now number, c.channel_on.ensures, c.channel_bytes.ensures.0)
 
 pub returns-in_err-read_channel : goal.returns-in_err-read_channel
 returns-in_err-read_channel c =

@@ -6,6 +6,6 @@ use Rattle.capi.proofs.bench_channels.rimevelvet_bench_grant.Goals as goal
 
 pub returns : goal.returns
 returns c =
-    c.bench_moved.ensures
-    ∙ bench_moved_through c.args.bench (search rules) (λ b. bench_granted b c.args.caller c.args.receiver c.args.channel) c.try_from.result c.and_then-granted.result c.try_from.ensures
-    (MatchResult-weaker c.try_from.result c.and_then-granted.ensures (λ b p. search rules) (λ e q. q))
+    c.moved.ensures
+    ∙ bench_moved_through c.args.bench (search rules) (λ b. bench_granted b c.args.caller c.args.receiver c.args.channel) c.try_from-given.result c.and_then-granted.result c.try_from-given.ensures
+    (MatchResult-weaker c.try_from-given.result c.and_then-granted.ensures (λ b p. search rules) (λ e q. q))

@@ -6,6 +6,6 @@ use Rattle.capi.proofs.bench_lines.rimevelvet_bench_deselect.Goals as goal
 
 pub returns : goal.returns
 returns c =
-    c.bench_moved.ensures
+    c.moved.ensures
     ∙ bench_moved_through c.args.bench (search rules) (λ b. bench_deselected b c.args.number) c.try_from.result c.and_then-risen.result c.try_from.ensures
     (MatchResult-weaker c.try_from.result c.and_then-risen.ensures (λ b p. search rules) (λ e q. q))

@@ -6,6 +6,6 @@ use Rattle.capi.proofs.bench_lines.rimevelvet_bench_step.Goals as goal
 
 pub returns : goal.returns
 returns c =
-    c.bench_stepped.ensures
+    c.stepped.ensures
     ∙ bench_step_through c.args.bench (search rules) (λ b. bench_stepped b c.args.number c.args.byte) c.try_from.result c.and_then-stepped.result c.try_from.ensures
     (MatchResult-weaker c.try_from.result c.and_then-stepped.ensures (λ b p. search rules) (λ e q. q))

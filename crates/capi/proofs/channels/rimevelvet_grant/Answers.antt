@@ -7,5 +7,5 @@ use Rattle.capi.proofs.channels.rimevelvet_grant.Goals as goal
 pub returns : goal.returns
 returns c =
     c.moved.ensures
-    ∙ moved_through c.args.state (λ s. granted s c.args.caller c.args.receiver c.args.channel) c.try_from.result c.and_then-granted.result c.try_from.ensures
-    (MatchResult-weaker c.try_from.result c.and_then-granted.ensures (λ s p. search rules) (λ e q. q))
+    ∙ moved_through c.args.state (λ s. granted s c.args.caller c.args.receiver c.args.channel) c.try_from-given.result c.and_then-granted.result c.try_from-given.ensures
+    (MatchResult-weaker c.try_from-given.result c.and_then-granted.ensures (λ s p. search rules) (λ e q. q))
