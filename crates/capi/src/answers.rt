@@ -19,7 +19,10 @@ pub(crate) struct Located {
     pub length: usize,
 }
 
-pub(crate) fn stepped(state: FlatConverter, stepped: Result<Exchange<Converter>, Refusal>) -> FlatStepped
+pub(crate) fn stepped(
+    state: FlatConverter,
+    stepped: Result<Exchange<Converter>, Refusal>,
+) -> FlatStepped
     ensures { result ≡ flat_step_answer state stepped }
 {
     match stepped {

@@ -9,7 +9,10 @@ use bench_planner::BenchPlan;
 use flat_bench::FlatBench;
 use refusal::Refusal;
 
-pub(crate) fn stepped(bench: FlatBench, stepped: Result<Exchange<Bench>, Refusal>) -> FlatBenchStepped
+pub(crate) fn stepped(
+    bench: FlatBench,
+    stepped: Result<Exchange<Bench>, Refusal>,
+) -> FlatBenchStepped
     ensures { result ≡ flat_bench_step_answer bench stepped }
 {
     match stepped {
