@@ -1,15 +1,14 @@
 -- Laws of codes and their words: the round trips, and what 32-bit arithmetic gives.
 use Prim.Native.Nat.{ℕ, zero, suc, ◌+◌, ◌-◌, ◌%◌, ◌^◌, ◌<◌, ◌≤◌}
-use mathlib.Core.Path.{◌≡◌, refl, sym, ◌∙◌}
-use mathlib.Core.Bool.{true, false, false≢true}
+use mathlib.Core.Path.{◌≡◌, refl, ◌∙◌}
+use mathlib.Core.Bool.{true}
 use mathlib.Core.List.{List, [], ◌∷◌}
 use native.Mathlib.Nat.{lt_of_lt_of_le, mod-lt}
 use native.Mathlib.Omega.{arith}
 use borrow.Author.Tests.{leb-true, le-leb, lt-ltb, le-ltb, ltb-true, ltb-false}
-use lib.Dec.{T, ltb}
+use lib.Dec.{ltb}
 use lib.ListN.{get_or}
-use lib.IntN.{ℤ, pos, negsuc, nat_abs, ◌-ℤ◌}
-use lib.Signed.{mag, lt_z, non_neg}
+use lib.IntN.{ℤ, pos, negsuc, ◌-ℤ◌}
 use mir.Syntax.{w32}
 use mir.Val.{to_z, of_z, SFits}
 use mir.Facts.{to_z_pos, to_z-of_z}
@@ -93,21 +92,7 @@ offset_code w h =
     ∙ rw (to_z_pos w32 {n = (w + sign_word) % word_count} (omega arith)) (offset w h)
 
 -- the word of a code in 32-bit arithmetic
-pub record Negative (z : ℤ) : Type 0 where
-  pub flipped : negsuc 0 -ℤ z ≡ pos (mag z)
-  pub worded : word_count - 1 - mag z % word_count ≡ word_of z
-
-pub negative : (z : ℤ) → lt_z z (pos 0) ≡ true → Negative z
+pub cast_word : (z : ℤ) → SFits w32 z → of_z w32 z % word_count ≡ word_of z
 unfolding word_of
-negative (pos n) t = absurd (omega (arith, ltb-true n 0 t))
-negative (negsuc n) t = record { flipped = let e : suc n - 1 ≡ n = omega arith in simp (le-ltb (suc n) 1 (omega arith), e); worded = refl }
-
-pub record NonNegative (z : ℤ) : Type 0 where
-  pub sign : T (non_neg z)
-  pub same : nat_abs z ≡ mag z
-  pub worded : mag z % word_count ≡ word_of z
-
-pub non_negative : (z : ℤ) → lt_z z (pos 0) ≡ false → NonNegative z
-unfolding word_of
-non_negative (pos n) t = record { sign = tt; same = refl; worded = refl }
-non_negative (negsuc n) t = absurd (false≢true (sym t))
+cast_word (pos n) s = refl
+cast_word (negsuc n) s = omega (arith, s.sfits)

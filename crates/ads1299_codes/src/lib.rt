@@ -61,7 +61,7 @@ pub fn all_in_range(codes: &[i32]) -> bool
 fn code(high: u8, middle: u8, low: u8) -> i32
     ensures { result ≡ code_of (word high middle low) }
 {
-    let word = (high as u32) * 0x10000 + (middle as u32) * 0x100 + (low as u32);
+    let word = u32::from_be_bytes([0, high, middle, low]);
     ((word + SIGN_WORD) % WORD_COUNT) as i32 - SIGN_WORD as i32
 }
 
@@ -89,22 +89,18 @@ pub fn decode(high: u8, middle: u8, low: u8) -> Decoded
     }
 }
 
-// A rail's number by the name that docs/DECISIONS.md and docs/RULES.md give it.
+// Beside From: what could not fail still cannot, and docs/DECISIONS.md promises it by this name.
 pub fn rail_number(rail: Rail) -> u8
     ensures { result ≡ rail_number rail }
 {
     u8::from(rail)
 }
 
-// The low 24 bits of an integer in two's complement. `-1 - code` has the bits of `code` flipped.
+// The low 24 bits of an integer in two's complement.
 fn word_of(code: i32) -> u32
     ensures { result ≡ word_of code }
 {
-    if code < 0 {
-        WORD_COUNT - 1 - (-1 - code) as u32 % WORD_COUNT
-    } else {
-        code as u32 % WORD_COUNT
-    }
+    code.cast_unsigned() % WORD_COUNT
 }
 
 // The three bytes of a code, high byte first. A code out of range is cut to its low 24 bits.
@@ -112,10 +108,6 @@ fn word_of(code: i32) -> u32
 pub fn code_bytes(code: i32) -> [u8; WORD_LENGTH]
     ensures { result ≡ word_bytes (word_of code) }
 {
-    let word = word_of(code);
-    [
-        (word / 0x10000 % 0x100) as u8,
-        (word / 0x100 % 0x100) as u8,
-        (word % 0x100) as u8,
-    ]
+    let [_, high, middle, low] = word_of(code).to_be_bytes();
+    [high, middle, low]
 }

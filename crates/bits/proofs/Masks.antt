@@ -1,6 +1,6 @@
 -- The laws of a write through a mask, by induction on the bits: a masked write of k bits is one of the bits above the lowest, and the lowest.
 use Prim.Native.Nat.{ℕ, zero, suc, ◌+◌, ◌-◌, ◌*◌, ◌/◌, ◌%◌, ◌^◌, ◌<◌, min}
-use mathlib.Core.Path.{◌≡◌, sym, ◌∙◌, ap}
+use mathlib.Core.Path.{◌≡◌, refl, sym, ◌∙◌, ap}
 use mathlib.Core.Bool.{cond}
 use native.Mathlib.Nat.{pow-suc}
 use native.Mathlib.Omega.{arith}
@@ -8,7 +8,9 @@ use native.Mathlib.Numerals.{one-add}
 use borrow.Author.Tests.{eqb-true, eqb-false, leb-true, leb-false}
 use lib.Dec.{eqb, leb}
 use lib.Pow.{pow_pos, shr-shr}
-use lib.Bits.{bit_and, and_step, and_le_r}
+use lib.Bits.{bit_and, bit_or, and_step, and_le_r, and_zero_l}
+use Rattle.std.proofs.lemmas.Nat.{or_disjoint, and_assoc, and_comm}
+use Rattle.std.proofs.lemmas.Grind.{and-not_self}
 use Rattle.bits.specs.Fields.{field, bit, inserted, masked}
 use Rattle.bits.specs.Laws.{MasksSelect, CoveredPasses}
 use Rattle.cases.proofs.Cases.{split}
@@ -17,6 +19,14 @@ use Rattle.bits.proofs.Fields.{replaced, same_bits, bit_of_field}
 pub masked_lt : (old mask new : ℕ) → mask < 256 → masked old mask new < 256
 unfolding masked
 masked_lt old mask new h = omega (arith, and_le_r old (255 - mask), and_le_r new mask)
+
+-- the two parts share no bit, so the code's `|` is the sum
+pub parts_joined : (old mask new : ℕ) → mask < 256 → bit_or (bit_and old (255 - mask)) (bit_and new mask) ≡ masked old mask new
+unfolding masked
+parts_joined old mask new h =
+    let kept = bit_and old (255 - mask) in
+    let apart : bit_and kept mask ≡ 0 = and-not_self old 255 mask mask refl (omega arith) refl in
+    or_disjoint kept (bit_and new mask) (ap (bit_and kept) (and_comm new mask) ∙ sym (and_assoc new kept mask) ∙ rw apart (and_zero_l new))
 
 -- a masked write of k bits, one bit at a time
 abbrev over : ℕ → ℕ → ℕ → ℕ → ℕ

@@ -58,9 +58,9 @@ pub fn insert(byte: u8, bit: u8, width: u8, value: u8) -> u8
 }
 
 // The mask's bits of the new byte, and the other bits of the old.
-#[tactic(auto, unfolding(crate::specs::Fields::masked))]
+#[tactic(auto, using(crate::proofs::Masks::parts_joined))]
 pub fn write_masked(old: u8, mask: u8, new: u8) -> u8
     ensures { result ≡ masked old mask new }
 {
-    (old & (255 - mask)) + (new & mask)
+    (old & !mask) | (new & mask)
 }

@@ -32,7 +32,7 @@ pub extern "C" fn rimevelvet_request_read(bytes: &[u8]) -> FlatParsed
     match request::read(bytes) {
         Ok(found) => FlatParsed {
             refusal: refusal::NONE,
-            request: found.request,
+            request: found.value,
             used: found.used,
         },
         Err(refusal) => FlatParsed {

@@ -11,8 +11,9 @@ ghost use Rattle.console.specs.Turn.{fresh, asked, answered, printed, turn};
 ghost use Rattle.console.specs.Transcript.{session, transcript_of};
 
 use ads1299::Converter;
+use leb128::Decoded;
 use refusal::Refusal;
-use request::{Found, Request};
+use request::Request;
 
 // More input than this is refused whole.
 pub const INPUT_LIMIT: usize = 4096;
@@ -143,7 +144,12 @@ fn answer(converter: Converter, party: u32, bytes: &[u8], out: &mut [u8], at: us
         × (out.new ≡ spliced out.old at (printed converter party bytes.now)) }
 {
     match request::read(bytes) {
-        Ok(Found { request, used }) => {
+        Ok(
+            Decoded {
+                value: request,
+                used,
+            },
+        ) => {
             let (place, next) = put_answer(converter, party, request, out, at);
             Turn { used, place, next }
         }

@@ -10,7 +10,7 @@ use Rattle.leb128.specs.Numbers.{groups}
 use Rattle.leb128.specs.Encoding.{padded}
 
 -- gives the answer of reading
-abbrev pub read_answer : Result Decoded Refusal → Number
+abbrev pub read_answer : Result (Decoded ℕ) Refusal → Number
 read_answer (Ok number) = record { refusal = none; value = number.value; used = number.used }
 read_answer (Err refusal) = record { refusal = number_of refusal; value = 0; used = 0 }
 

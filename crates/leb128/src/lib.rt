@@ -19,16 +19,16 @@ pub const GROUPS: usize = 2;
 // The largest number of two groups.
 pub const LARGEST: u32 = BASE * BASE - 1;
 
-// A number that was read, and the count of its bytes.
+// What was read, and the count of its bytes.
 #[derive(Clone, Copy, Debug, PartialEq, Eq)]
-pub struct Decoded {
-    pub value: u32,
+pub struct Decoded<T> {
+    pub value: T,
     pub used: usize,
 }
 
 // The number that the bytes start with. Bytes after it are not looked at.
 #[tactic(auto, using(crate::proofs::TwoGroups::nothing, crate::proofs::TwoGroups::alone, crate::proofs::TwoGroups::missing, crate::proofs::TwoGroups::zero, crate::proofs::TwoGroups::both, crate::proofs::TwoGroups::third))]
-pub fn read(bytes: &[u8]) -> Result<Decoded, Refusal>
+pub fn read(bytes: &[u8]) -> Result<Decoded<u32>, Refusal>
     ensures { read_answer result ≡ decoded groups bytes.now }
 {
     let low = *bytes.first().ok_or(Refusal::Truncated)? as u32;

@@ -52,7 +52,7 @@ impl From<Refusal> for u8 {
 pub fn when(applies: bool, refusal: Refusal) -> Option<Refusal>
     ensures { number_in result ≡ given applies (number_of refusal) }
 {
-    if applies { Some(refusal) } else { None }
+    applies.then_some(refusal)
 }
 
 // The first refusal of a list, in the order of document 01, or none.

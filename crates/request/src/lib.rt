@@ -14,6 +14,7 @@ ghost use Rattle.request.specs.Writing.{written, buffer_after};
 ghost use Rattle.request.specs.Results.{read_answer, write_answer};
 
 use arrayvec::ArrayVec;
+use leb128::Decoded;
 use refusal::Refusal;
 
 // The most values of a request: one for each field of a channel.
@@ -40,19 +41,6 @@ pub struct Request {
     pub values: [u32; VALUES],
 }
 
-// A request that was read, and the count of its bytes.
-#[derive(Clone, Copy)]
-pub struct Found {
-    pub request: Request,
-    pub used: usize,
-}
-
-// Numbers that were read one after the other, and the count of their bytes.
-struct Series {
-    numbers: ArrayVec<u32, MOST_NUMBERS>,
-    used: usize,
-}
-
 // How many values a request for the field has.
 pub fn count_values(field: u32) -> usize
     ensures { result ≡ value_count field }
@@ -65,10 +53,10 @@ pub fn count_values(field: u32) -> usize
 }
 
 // So many numbers from the bytes' start on, or the refusal of the first that has one.
-fn read_series(bytes: &[u8], count: usize) -> Result<Series, Refusal>
+fn read_series(bytes: &[u8], count: usize) -> Result<Decoded<ArrayVec<u32, MOST_NUMBERS>>, Refusal>
     requires { count ≤ most_numbers }
     ensures judged { answer_number result ≡ first_of (series groups count bytes.now).refusals }
-    ensures numbers { IfOk result (λ s. s.numbers.items ≡ (series groups count bytes.now).numbers) }
+    ensures numbers { IfOk result (λ s. s.value.items ≡ (series groups count bytes.now).numbers) }
     ensures used { IfOk result (λ s. s.used ≡ (series groups count bytes.now).used) }
 {
     let mut numbers = ArrayVec::new();
@@ -78,7 +66,10 @@ fn read_series(bytes: &[u8], count: usize) -> Result<Series, Refusal>
         numbers.push(number.value);
         used += number.used;
     }
-    Ok(Series { numbers, used })
+    Ok(Decoded {
+        value: numbers,
+        used,
+    })
 }
 
 // The request that numbers are: the values that its field does not use are 0.
@@ -96,14 +87,16 @@ fn request_of(numbers: &[u32]) -> Request
 }
 
 // The request that the bytes start with. Bytes after it are not looked at.
-pub fn read(bytes: &[u8]) -> Result<Found, Refusal>
+pub fn read(bytes: &[u8]) -> Result<Decoded<Request>, Refusal>
     ensures { read_answer result ≡ parsed bytes.now }
 {
     // The field is read ahead: it alone says how many numbers there are, whatever the channel.
     let field = leb128::read(bytes)?.value;
-    let Series { numbers, used } = read_series(bytes, HEAD + count_values(field))?;
-    let request = request_of(&numbers);
-    Ok(Found { request, used })
+    let series = read_series(bytes, HEAD + count_values(field))?;
+    Ok(Decoded {
+        value: request_of(&series.value),
+        used: series.used,
+    })
 }
 
 // The numbers of a request, without the values that its field does not use.

@@ -18,22 +18,22 @@ returns-in_err-field c =
     rw (p.1, p.2) (ap refused e ∙ sym (field_refused c.args.bytes.now (λ z. h (e ∙ z))))
 
 -- the count of the numbers is the definition's
-pub returns-in_err-numbers : goal.returns-in_err-numbers
+pub returns-in_err-series : goal.returns-in_err-series
 unfolding read_refusal numbers_read
-returns-in_err-numbers c =
+returns-in_err-series c =
     let bytes = c.args.bytes.now in
-    let p = err_from_is_err_and c.from_residual-in_err-numbers.result c.from_residual-in_err-numbers.ensures.1 in
+    let p = err_from_is_err_and c.from_residual-in_err-series.result c.from_residual-in_err-series.ensures.1 in
     let n = counting bytes _ _ _ c.in_ok-field.ensures c.count_values.ensures in
-    let e : number_of c.in_err-numbers.field-0.0 ≡ read_refusal bytes = rw n at c.in_err-numbers.ensures.judged in
-    let h = eqb-false _ _ (refused_lem c.in_err-numbers.field-0.0) in
+    let e : number_of c.in_err-series.field-0.0 ≡ read_refusal bytes = rw n at c.in_err-series.ensures.judged in
+    let h = eqb-false _ _ (refused_lem c.in_err-series.field-0.0) in
     rw (p.1, p.2) (ap refused e ∙ sym (series_refused bytes (λ z. h (e ∙ z))))
 
-pub request_of-request-requires : goal.request_of-request-requires
+pub request_of-requires : goal.request_of-requires
 unfolding numbers_read
-request_of-request-requires c =
+request_of-requires c =
     let bytes = c.args.bytes.now in
     let n = counting bytes _ _ _ c.in_ok-field.ensures c.count_values.ensures in
-    let e : c.deref.result.now ≡ (numbers_read bytes).numbers = c.deref.ensures.0 ∙ (rw n at c.in_ok-numbers.ensures.numbers) in
+    let e : c.deref.result.now ≡ (numbers_read bytes).numbers = c.deref.ensures.0 ∙ (rw n at c.in_ok-series.ensures.numbers) in
     let b = numbers_between bytes in
     let m = numbers_many bytes in
     rw e (omega (arith, b.0, m), omega (arith, b.1, m))
@@ -43,7 +43,7 @@ unfolding read_refusal numbers_read
 returns c =
     let bytes = c.args.bytes.now in
     let n = counting bytes _ _ _ c.in_ok-field.ensures c.count_values.ensures in
-    let e : c.deref.result.now ≡ (numbers_read bytes).numbers = c.deref.ensures.0 ∙ (rw n at c.in_ok-numbers.ensures.numbers) in
-    let u : c.in_ok-numbers.field-0.used ≡ (numbers_read bytes).used = rw n at c.in_ok-numbers.ensures.used in
-    let j : none ≡ read_refusal bytes = rw n at c.in_ok-numbers.ensures.judged in
-    rw (c.request_of-request.ensures, e, u) (sym (series_found bytes (sym j)))
+    let e : c.deref.result.now ≡ (numbers_read bytes).numbers = c.deref.ensures.0 ∙ (rw n at c.in_ok-series.ensures.numbers) in
+    let u : c.in_ok-series.series.used ≡ (numbers_read bytes).used = rw n at c.in_ok-series.ensures.used in
+    let j : none ≡ read_refusal bytes = rw n at c.in_ok-series.ensures.judged in
+    rw (c.request_of.ensures, e, u) (sym (series_found bytes (sym j)))
