@@ -37,6 +37,7 @@ struct Turn {
     next: Converter,
 }
 
+// By hand: write! goes to a String (no heap here), the crate hex writes lower case, and Text.hex says every byte.
 fn hex_digit(n: u8) -> u8
     requires { n < 16 }
     ensures { result ≡ hex_digit n }
@@ -44,6 +45,7 @@ fn hex_digit(n: u8) -> u8
     if n < 10 { b'0' + n } else { b'A' - 10 + n }
 }
 
+// A place goes in and the next comes out: planner's Writer is private, since a public one would ask its callers for room, which no public function here does.
 // Writes a number in decimal and gives the place after it; two digits are enough for a refusal.
 fn put_decimal(out: &mut [u8], at: usize, number: u8) -> usize
     requires { at + length (decimal number) ≤ length out.old }
@@ -127,6 +129,7 @@ fn put_answer(
         × ((result.1 ≡ (planned converter (asked party request)).next)
         × (out.new ≡ spliced out.old at (answered converter (asked party request)))) }
 {
+    // The plan goes into a lent sheet and the answer carries its length (document 01, Plans).
     let mut buffer = [0; planner::LONGEST];
     match planner::plan(converter, party, request, &mut buffer, 0) {
         Ok(plan) => {

@@ -20,19 +20,16 @@ fn judge_grant(
 ) -> Result<(), Refusal>
     ensures { answer_number result ≡ grant_refusal converter caller receiver channel }
 {
-    let valid = converter.is_valid();
-    let caller_known = parties::is_known(caller);
-    let receiver_known = parties::is_known(receiver);
-    let there = ads1299_registers::is_channel(channel);
-    let admin = parties::is_admin(caller);
-    let tests = [
-        refusal::when(!valid, Refusal::InvalidState),
-        refusal::when(!caller_known, Refusal::UnknownParty),
-        refusal::when(!receiver_known, Refusal::UnknownParty),
-        refusal::when(!there, Refusal::WrongChannel),
-        refusal::when(!admin, Refusal::NotOwner),
-    ];
-    refusal::first_of(&tests)
+    refusal::first_of(&[
+        refusal::when(!converter.is_valid(), Refusal::InvalidState),
+        refusal::when(!parties::is_known(caller), Refusal::UnknownParty),
+        refusal::when(!parties::is_known(receiver), Refusal::UnknownParty),
+        refusal::when(
+            !ads1299_registers::is_channel(channel),
+            Refusal::WrongChannel,
+        ),
+        refusal::when(!parties::is_admin(caller), Refusal::NotOwner),
+    ])
 }
 
 // The state with one owner entry changed.
@@ -46,6 +43,7 @@ fn reassign(mut converter: Converter, channel: u32, receiver: u32) -> Converter
 }
 
 // Gives a channel to a party. Only the administrator may, and it may whatever the converter is doing.
+// Caller, receiver and channel go one by one, as C passes them and granted takes them.
 #[tactic(auto, using(crate::proofs::Accepted::grantable), unfolding(crate::specs::Grant::granted))]
 pub fn grant(
     converter: Converter,

@@ -34,9 +34,8 @@ pub(crate) fn set_all(registers: [u8; COUNT], request: Request) -> [u8; COUNT]
 {
     let count = request::count_values(request.field);
     let mut after = registers;
-    for done in 0..count {
-        let field = field_at(request, done);
-        let set = ads1299_settings::write(after, field, request.channel, request.values[done]);
+    for (i, &value) in request.values[..count].iter().enumerate() {
+        let set = ads1299_settings::write(after, field_at(request, i), request.channel, value);
         after = set;
     }
     after

@@ -60,25 +60,26 @@ fn judge(c: Converter, party: u32, request: Request, room: usize) -> Result<(), 
     ensures judged { answer_number result ≡ refusal_of c (record { party = party; request = request; room = room }) }
     ensures formed { Formed c }
 {
-    let valid = c.is_valid();
-    let known = parties::is_known(party);
-    let field = ads1299_fields::is_known_field(request.field);
-    let channel = ads1299_fields::takes_channel(request.field, request.channel);
-    let owner = is_field_owner(c.owners, party, request.field, request.channel);
-    let legal = are_legal(request);
-    let waiting = ads1299_serial::is_waiting(c.phase);
-    let needed = plan_length(c, request);
-    let tests = [
-        refusal::when(!valid, Refusal::InvalidState),
-        refusal::when(!known, Refusal::UnknownParty),
-        refusal::when(!field, Refusal::UnknownField),
-        refusal::when(!channel, Refusal::WrongChannel),
-        refusal::when(!owner, Refusal::NotOwner),
-        refusal::when(!legal, Refusal::BadValue),
-        refusal::when(!waiting, Refusal::NotWaiting),
-        refusal::when(room < needed, Refusal::NoRoom),
-    ];
-    refusal::first_of(&tests)
+    let Request { field, channel, .. } = request;
+    refusal::first_of(&[
+        refusal::when(!c.is_valid(), Refusal::InvalidState),
+        refusal::when(!parties::is_known(party), Refusal::UnknownParty),
+        refusal::when(
+            !ads1299_fields::is_known_field(field),
+            Refusal::UnknownField,
+        ),
+        refusal::when(
+            !ads1299_fields::takes_channel(field, channel),
+            Refusal::WrongChannel,
+        ),
+        refusal::when(
+            !is_field_owner(c.owners, party, field, channel),
+            Refusal::NotOwner,
+        ),
+        refusal::when(!are_legal(request), Refusal::BadValue),
+        refusal::when(!ads1299_serial::is_waiting(c.phase), Refusal::NotWaiting),
+        refusal::when(room < plan_length(c, request), Refusal::NoRoom),
+    ])
 }
 
 // A buffer that bytes are put in one after the other, and the place of the next.
@@ -174,6 +175,7 @@ fn change(c: Converter, request: Request) -> Converter
 }
 
 // Plans a request: the plan goes into the transmit buffer (document 01: sheet) from a place on, and all else there stays.
+// Party, request, buffer and place go one by one, as C passes them; the clauses speak of the first two by the record submission.
 pub fn plan(
     c: Converter,
     party: u32,

@@ -28,22 +28,24 @@ fn judge_reading(
 ) -> Result<(), Refusal>
     ensures { answer_number result ≡ reading_refusal converter party channel frame.now }
 {
-    let valid = converter.is_valid();
-    let known = parties::is_known(party);
-    let there = ads1299_registers::is_channel(channel);
-    let owner = parties::is_owner(&converter.owners, party, channel);
-    let framed = ads1299_readout::is_frame(frame);
-    let tests = [
-        refusal::when(!valid, Refusal::InvalidState),
-        refusal::when(!known, Refusal::UnknownParty),
-        refusal::when(!there, Refusal::WrongChannel),
-        refusal::when(!owner, Refusal::NotOwner),
-        refusal::when(!framed, Refusal::BadFrame),
-    ];
-    refusal::first_of(&tests)
+    let owners = &converter.owners;
+    refusal::first_of(&[
+        refusal::when(!converter.is_valid(), Refusal::InvalidState),
+        refusal::when(!parties::is_known(party), Refusal::UnknownParty),
+        refusal::when(
+            !ads1299_registers::is_channel(channel),
+            Refusal::WrongChannel,
+        ),
+        refusal::when(
+            !parties::is_owner(owners, party, channel),
+            Refusal::NotOwner,
+        ),
+        refusal::when(!ads1299_readout::is_frame(frame), Refusal::BadFrame),
+    ])
 }
 
 // Reads a channel from a frame, for its owner alone: the administrator too reads only its own.
+// Party, channel and frame go one by one, as C passes them and channel_reading takes them.
 #[tactic(auto, unfolding(ads1299_codes::specs::Rails::decoded, ads1299_readout::specs::Reading::rail_at, crate::specs::Reading::channel_reading))]
 pub fn read_channel(
     converter: Converter,

@@ -9,9 +9,9 @@ pub returns : goal.returns
 unfolding reading_refusal
 returns c = let a = c.args in
     walked (reading_refusals a.converter a.party a.channel a.frame.now) refl c.first_of.ensures
-    (λ i. says invalid_state c.when.ensures c.is_valid-valid.ensures i
-    ∷ says unknown_party c.when-2.ensures c.is_known-known.ensures i
-    ∷ says wrong_channel c.when-3.ensures c.is_channel-there.ensures i
-    ∷ says not_owner c.when-4.ensures c.is_owner-owner.ensures i
-    ∷ says bad_frame c.when-5.ensures c.is_frame-framed.ensures i
+    (λ i. says invalid_state c.when.ensures c.is_valid.ensures i
+    ∷ says unknown_party c.when-2.ensures c.is_known.ensures i
+    ∷ says wrong_channel c.when-3.ensures c.is_channel.ensures i
+    ∷ says not_owner c.when-4.ensures c.is_owner.ensures i
+    ∷ says bad_frame c.when-5.ensures c.is_frame.ensures i
     ∷ [])
