@@ -72,6 +72,7 @@ impl Ads7953 {
         }
     }
 
+    // A match and no table of functions: the commands are the data sheet's closed list.
     #[tactic(auto, unfolding(crate::specs::Latch::commanded))]
     fn command(mut self, command: Command, word: u16) -> Ads7953
         ensures { result ≡ commanded command self word }

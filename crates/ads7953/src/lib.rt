@@ -35,7 +35,7 @@ pub struct Ads7953 {
     pub first: bool, // no frame since power-up
 }
 
-// The reply to a frame, and the part after it.
+// The reply to a frame, and the part after it. Of its own: this part does not depend on the ADS1299's crates, and a word goes out.
 #[derive(Clone, Copy)]
 pub struct Exchange {
     pub reply: u16,

@@ -24,7 +24,7 @@ pub(crate) enum Command {
     ProgramAuto2,
 }
 
-// Whether a word's bit is 1.
+// Whether a word's bit is 1. Of a word: the crate bits speaks of a byte.
 #[tactic(auto, unfolding(bits::specs::Fields::field, bits::specs::Fields::bit))]
 pub(crate) fn is_set(word: u16, place: u8) -> bool
     requires { place < 16 }
@@ -33,7 +33,7 @@ pub(crate) fn is_set(word: u16, place: u8) -> bool
     (word >> place) % 2 == 1
 }
 
-// The four bits of a word from one on.
+// The four bits of a word from one on. Of a word, as is_set.
 #[tactic(auto, unfolding(bits::specs::Fields::field))]
 fn four_bits(word: u16, from: u8) -> u8
     requires { from < 16 }

@@ -42,8 +42,7 @@ impl Bench {
         ensures { bench_moved_answer self result ≡ bench_deselected self number }
     {
         let k = self.line(number)?;
-        let risen = self.converters[k].deselect()?;
-        self.converters[k] = risen;
+        self.converters[k] = self.converters[k].deselect()?;
         Ok(self)
     }
 
@@ -53,8 +52,7 @@ impl Bench {
         ensures { bench_moved_answer self result ≡ bench_sampled self number codes.now p n }
     {
         let k = self.line(number)?;
-        let sampled = self.converters[k].sample(codes, p, n)?;
-        self.converters[k] = sampled;
+        self.converters[k] = self.converters[k].sample(codes, p, n)?;
         Ok(self)
     }
 }

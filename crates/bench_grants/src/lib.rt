@@ -9,6 +9,7 @@ use bench::Bench;
 use refusal::Refusal;
 
 // Gives a channel to a party, on the converter that has it.
+// The parameters go one by one, as C passes them and the definition takes them.
 #[tactic(auto, using(lines::proofs::Numbering::mapped_below), unfolding(crate::specs::Grant::bench_granted))]
 pub fn grant(mut bench: Bench, caller: u32, receiver: u32, channel: u32) -> Result<Bench, Refusal>
     ensures { bench_moved_answer bench result ≡ bench_granted bench caller receiver channel }
@@ -18,7 +19,6 @@ pub fn grant(mut bench: Bench, caller: u32, receiver: u32, channel: u32) -> Resu
     }
     let k = lines::converter_of(channel) as usize;
     let local = lines::local_channel(channel);
-    let granted = grants::grant(bench.converters[k], caller, receiver, local)?;
-    bench.converters[k] = granted;
+    bench.converters[k] = grants::grant(bench.converters[k], caller, receiver, local)?;
     Ok(bench)
 }

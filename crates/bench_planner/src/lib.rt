@@ -36,6 +36,7 @@ fn localise(request: Request) -> Request
 }
 
 // Plans a request into the transmit buffer from a place on, by the named converter, once every converter passes 13.
+// The parameters go one by one, as C passes them and the definition takes them.
 pub fn plan(
     mut bench: Bench,
     party: u32,

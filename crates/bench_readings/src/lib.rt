@@ -10,7 +10,7 @@ use readings::Readout;
 use refusal::Refusal;
 
 // Reads a channel from a frame of the converter of this number, for its owner alone. A number that is not the channel's makes it a
-// channel that no converter has.
+// channel that no converter has. The parameters go one by one, as C passes them and the definition takes them.
 #[tactic(auto, using(lines::proofs::Numbering::mapped_below), unfolding(crate::specs::Reading::bench_reading))]
 pub fn read_channel(
     bench: Bench,

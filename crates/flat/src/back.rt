@@ -18,11 +18,7 @@ fn are_flags(continuous: u8, standby: u8, converting: u8) -> bool
 fn is_output(code: u8, place: u8) -> bool
     ensures { result ≡ is_output code place }
 {
-    match code {
-        EMPTY => place == 0,
-        AT_PLACE => true,
-        _ => false,
-    }
+    matches!((code, place), (EMPTY, 0) | (AT_PLACE, _))
 }
 
 #[tactic(auto, unfolding(crate::specs::States::is_phase))]
@@ -46,6 +42,7 @@ pub fn is_state(state: FlatConverter) -> bool
         && is_phase(state.phase, state.direction, state.address, state.remaining)
 }
 
+// No TryFrom: these cannot fail, as state_of must not, and a phase is two bytes or more.
 fn direction_of(code: u8) -> Direction
     ensures { result ≡ direction_of code }
 {
@@ -77,6 +74,7 @@ fn phase_of(code: u8, transfer: Transfer) -> Phase
 pub fn state_of(state: FlatConverter) -> Converter
     ensures { result ≡ state_of state }
 {
+    // Taken apart: the check's borrow pass takes no array straight from another's field into a literal.
     let FlatConverter {
         registers,
         owners,

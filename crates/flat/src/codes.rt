@@ -1,3 +1,5 @@
+use ads1299_serial::Direction;
+
 // The codes of the C header. A flag is off or on.
 pub const ON: u8 = 1;
 
@@ -11,4 +13,4 @@ pub(crate) const HELD: u8 = 1;
 
 pub(crate) const COUNTING: u8 = 2;
 
-pub(crate) const WRITE: u8 = 1;
+pub(crate) const WRITE: u8 = Direction::Write as u8;

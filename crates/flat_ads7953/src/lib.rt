@@ -60,6 +60,7 @@ pub fn is_part(part: FlatAds7953) -> bool
         && part.first <= ON
 }
 
+// Not TryFrom<u8>: part_of cannot fail, and the definition mode_of has a mode for every number.
 fn mode_of(number: u8) -> Mode
     ensures { result ≡ mode_of number }
 {

@@ -6,7 +6,7 @@ use mathlib.Core.Path.{sym}
 use Rattle.bench.proofs.Bench.deselect.Goals as goal
 
 -- the converter's own refusal cannot come: the bench was judged whole
-pub returns-in_err-risen : goal.returns-in_err-risen
-returns-in_err-risen c = let k = c.in_ok-k.k in
+pub returns-in_err-self : goal.returns-in_err-self
+returns-in_err-self c = let k = c.in_ok-k.k in
     let v = each_valid c.args.self (clear _ _ (sym c.in_ok-k.ensures.refusal)).state k c.in_ok-k.ensures.place.1 in
-    absurd (no_rise_refused (at c.args.self k) v c.in_err-risen.field-0.0 c.in_err-risen.ensures)
+    absurd (no_rise_refused (at c.args.self k) v c.in_err-self.field-0.0 c.in_err-self.ensures)
