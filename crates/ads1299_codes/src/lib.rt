@@ -61,7 +61,8 @@ pub fn all_in_range(codes: &[i32]) -> bool
 fn code(high: u8, middle: u8, low: u8) -> i32
     ensures { result ≡ code_of (word high middle low) }
 {
-    let word = u32::from_be_bytes([0, high, middle, low]);
+    // Not from_be_bytes, which takes 11 instructions a code and not 9 (docs/CHECKS.md; document 02, No. 5).
+    let word = (high as u32) * 0x10000 + (middle as u32) * 0x100 + (low as u32);
     ((word + SIGN_WORD) % WORD_COUNT) as i32 - SIGN_WORD as i32
 }
 

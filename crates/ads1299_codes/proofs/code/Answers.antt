@@ -1,12 +1,13 @@
 use Rattle.ads1299_codes.proofs.Codes.{offset_code}
 use Rattle.ads1299_codes.specs.Words.{word}
-use mathlib.Core.Path.{◌≡◌}
+use Prim.Native.Nat.{ℕ}
 use native.Mathlib.Omega.{arith}
 use Rattle.ads1299_codes.proofs.code.Goals as goal
 
+-- the word of the three bytes
+abbrev bits : goal.Start → ℕ
+bits c = word c.args.high c.args.middle c.args.low
+
 pub returns : goal.returns
 unfolding word
-returns c =
-    let bits = word c.args.high c.args.middle c.args.low in
-    let e : c.from_be_bytes-word.result ≡ bits = omega (arith, c.from_be_bytes-word.ensures) in
-    rw e (offset_code bits (omega arith))
+returns c = offset_code (bits c) (omega arith)
