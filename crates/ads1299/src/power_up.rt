@@ -12,7 +12,7 @@ impl Converter {
     // overrides document 01's column.
     pub const CHANNEL_POWER_UP: u8 = 0x61;
 
-    // The registers' power-up values; the ID's is given.
+    // The registers' power-up values; the ID's is given. A row a register, as document 01 has them: a loop would hide the table.
     pub const POWER_UP: [u8; ads1299_registers::COUNT] = [
         0x00, // ID
         0x96, // CONFIG1

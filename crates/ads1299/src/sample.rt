@@ -25,28 +25,23 @@ impl Converter {
     fn judge_sample(self, codes: &[i32]) -> Result<(), Refusal>
         ensures { answer_number result ≡ sample_refusal self codes.now }
     {
-        let valid = self.is_valid();
-        let running = self.is_running();
-        let complete = Self::is_complete(codes);
-        let tests = [
-            refusal::when(!valid, Refusal::InvalidState),
-            refusal::when(!running, Refusal::NotConverting),
-            refusal::when(!complete, Refusal::BadSample),
-        ];
-        refusal::first_of(&tests)
+        refusal::first_of(&[
+            refusal::when(!self.is_valid(), Refusal::InvalidState),
+            refusal::when(!self.is_running(), Refusal::NotConverting),
+            refusal::when(!Self::is_complete(codes), Refusal::BadSample),
+        ])
     }
 
     fn with_status(
-        registers: [u8; ads1299_registers::COUNT],
+        mut registers: [u8; ads1299_registers::COUNT],
         p: u8,
         n: u8,
     ) -> [u8; ads1299_registers::COUNT]
         ensures { result ≡ with_status registers p n }
     {
-        let mut next = registers;
-        next[ads1299_registers::LOFF_STATP] = p;
-        next[ads1299_registers::LOFF_STATN] = n;
-        next
+        registers[ads1299_registers::LOFF_STATP] = p;
+        registers[ads1299_registers::LOFF_STATN] = n;
+        registers
     }
 
     fn take(self, codes: &[i32], p: u8, n: u8) -> Converter
@@ -61,7 +56,8 @@ impl Converter {
         if next.continuous { next.load() } else { next }
     }
 
-    // Takes a sample: the codes of channels 1 to 8, and the comparator bytes P and N.
+    // Takes a sample: the codes of channels 1 to 8, and the comparator bytes P and N. Codes, P and N go one by one, as C passes them
+    // and as sampled and frame_of take them.
     pub fn sample(self, codes: &[i32], p: u8, n: u8) -> Result<Converter, Refusal>
         ensures { moved_answer self result ≡ sampled self codes.now p n }
     {

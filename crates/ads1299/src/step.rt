@@ -1,7 +1,7 @@
 // The byte step and the select line.
 ghost use Rattle.std.specs.Prelude.{◌≡◌};
 ghost use Rattle.ads1299.specs.Registers.{register_at, written};
-ghost use Rattle.ads1299.specs.State.{with_output, with_phase, with_standby, with_converting, with_continuous};
+ghost use Rattle.ads1299.specs.State.{with_output, with_phase};
 ghost use Rattle.ads1299.specs.Output.{loaded, ignored};
 ghost use Rattle.ads1299.specs.Step.{held, effect, commanded, counted, outgoing, followed, stepped};
 ghost use Rattle.ads1299.specs.Deselect.{deselected};
@@ -23,18 +23,17 @@ impl Converter {
 
     // The registers after a write through the mask: dropped above the last register.
     fn write(
-        registers: [u8; ads1299_registers::COUNT],
+        mut registers: [u8; ads1299_registers::COUNT],
         address: u8,
         byte: u8,
     ) -> [u8; ads1299_registers::COUNT]
         ensures { result ≡ written registers address byte }
     {
-        let mut next = registers;
         let to = address as usize;
         if to < ads1299_registers::COUNT {
-            next[to] = bits::write_masked(next[to], Self::MASK[to], byte);
+            registers[to] = bits::write_masked(registers[to], Self::MASK[to], byte);
         }
-        next
+        registers
     }
 
     fn with_output(self, output: Option<u8>) -> Converter
@@ -68,27 +67,6 @@ impl Converter {
         }))
     }
 
-    fn with_standby(mut self, standby: bool) -> Converter
-        ensures { result ≡ with_standby self standby }
-    {
-        self.standby = standby;
-        self
-    }
-
-    fn with_converting(mut self, converting: bool) -> Converter
-        ensures { result ≡ with_converting self converting }
-    {
-        self.converting = converting;
-        self
-    }
-
-    fn with_continuous(mut self, continuous: bool) -> Converter
-        ensures { result ≡ with_continuous self continuous }
-    {
-        self.continuous = continuous;
-        self
-    }
-
     fn reset(self) -> Converter
         ensures { result ≡ effect Command.Reset self }
     {
@@ -108,17 +86,36 @@ impl Converter {
     }
 
     // What a command that acts does, once the output is empty.
+    // A match and no table of functions: the commands are the data sheet's closed list, and each arm says what one does.
     fn perform(self, command: Command) -> Converter
         ensures { result ≡ effect command self }
     {
         match command {
-            Command::Wakeup => self.with_standby(false),
-            Command::Standby => self.with_standby(true),
+            Command::Wakeup => Converter {
+                standby: false,
+                ..self
+            },
+            Command::Standby => Converter {
+                standby: true,
+                ..self
+            },
             Command::Reset => self.reset(),
-            Command::Start => self.with_converting(true),
-            Command::Stop => self.with_converting(false),
-            Command::Rdatac => self.with_continuous(true),
-            Command::Sdatac => self.with_continuous(false),
+            Command::Start => Converter {
+                converting: true,
+                ..self
+            },
+            Command::Stop => Converter {
+                converting: false,
+                ..self
+            },
+            Command::Rdatac => Converter {
+                continuous: true,
+                ..self
+            },
+            Command::Sdatac => Converter {
+                continuous: false,
+                ..self
+            },
             Command::Rdata => self.load(),
             Command::Rreg(address) => self.hold(Direction::Read, address),
             Command::Wreg(address) => self.hold(Direction::Write, address),
@@ -156,13 +153,14 @@ impl Converter {
         ensures { result ≡ outgoing self }
     {
         match self.phase {
-            Phase::Waiting | Phase::Held(_) => {
-                ads1299_serial::pending_byte(self.output, self.shifting)
-            }
-            Phase::Counting(transfer) => match transfer.direction {
-                Direction::Read => Self::register(self.registers, transfer.address),
-                Direction::Write => ads1299_serial::pending_byte(self.output, self.shifting),
-            },
+            Phase::Counting(
+                Transfer {
+                    direction: Direction::Read,
+                    address,
+                    ..
+                },
+            ) => Self::register(self.registers, address),
+            _ => ads1299_serial::pending_byte(self.output, self.shifting),
         }
     }
 

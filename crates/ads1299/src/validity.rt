@@ -6,10 +6,10 @@ use crate::Converter;
 
 impl Converter {
     // Whether a command may stand half given: in command mode, awake, with nothing pending.
-    fn is_interruptible(continuous: bool, standby: bool, output: Option<u8>) -> bool
-        ensures { result ≡ interruptible continuous standby output }
+    fn is_interruptible(self) -> bool
+        ensures { result ≡ interruptible self.continuous self.standby self.output }
     {
-        !continuous && !standby && output.is_none()
+        !self.continuous && !self.standby && self.output.is_none()
     }
 
     // Whether refusal 13 does not apply.
@@ -17,10 +17,9 @@ impl Converter {
     pub fn is_valid(self) -> bool
         ensures { result ≡ valid self }
     {
-        let interruptible = Self::is_interruptible(self.continuous, self.standby, self.output);
         Self::is_valid_id(self.registers[ads1299_registers::ID])
             && ads1299_serial::is_valid_place(self.output)
-            && ads1299_serial::is_valid_phase(self.phase, interruptible)
+            && ads1299_serial::is_valid_phase(self.phase, self.is_interruptible())
             && parties::are_known(&self.owners)
     }
 }

@@ -65,6 +65,7 @@ pub fn build(registers: [u8; ads1299_registers::COUNT], codes: &[i32], p: u8, n:
     ensures { result ≡ frame_of registers codes.now p n }
 {
     let mut frame = [0u8; LENGTH];
+    // No chunks_exact_mut: once that borrow is over a proof knows no element.
     for i in 0..WORDS {
         let bytes = word_bytes(registers, codes, p, n, i);
         let at = WORD_LENGTH * i;

@@ -19,8 +19,8 @@ const LAST_PLACE: u8 = ads1299_frame::LENGTH as u8 - 1;
 
 #[derive(Clone, Copy, Debug, PartialEq, Eq)]
 pub enum Direction {
-    Read,
-    Write,
+    Read = 0,
+    Write = 1,
 }
 
 // A register read or write: the next address, and how many registers are left (0 until the second byte has come).
@@ -88,9 +88,9 @@ pub fn remain(transfer: Transfer) -> Phase
 {
     if 1 < transfer.remaining && is_countable(transfer) {
         Phase::Counting(Transfer {
-            direction: transfer.direction,
             address: transfer.address + 1,
             remaining: transfer.remaining - 1,
+            ..transfer
         })
     } else {
         Phase::Waiting

@@ -7,11 +7,10 @@ use Rattle.ads1299.proofs.Converter.judge_sample.Goals as goal
 
 pub returns : goal.returns
 unfolding sample_refusal
-returns c = let w = c.before.before in
-    let t = w.before.before.before in
-    let a = t.args in
+returns c =
+    let a = c.args in
     walked (sample_refusals a.self a.codes.now) refl c.first_of.ensures
-    (λ i. says invalid_state w.when.ensures t.is_valid-valid.ensures i
-    ∷ says not_converting w.when-2.ensures t.is_running-running.ensures i
-    ∷ says bad_sample w.when-3.ensures t.is_complete-complete.ensures i
+    (λ i. says invalid_state c.when.ensures c.is_valid.ensures i
+    ∷ says not_converting c.when-2.ensures c.is_running.ensures i
+    ∷ says bad_sample c.when-3.ensures c.is_complete.ensures i
     ∷ [])

@@ -3,27 +3,27 @@ use Rattle.ads1299.proofs.Converter.perform.Goals as goal
 
 pub returns-in-Wakeup : goal.returns-in-Wakeup
 unfolding effect
-returns-in-Wakeup c = simp (c.in-Wakeup.is, c.with_standby.ensures)
+returns-in-Wakeup c = simp c.in-Wakeup.is
 
 pub returns-in-Standby : goal.returns-in-Standby
 unfolding effect
-returns-in-Standby c = simp (c.in-Standby.is, c.with_standby-in-Standby.ensures)
+returns-in-Standby c = simp c.in-Standby.is
 
 pub returns-in-Start : goal.returns-in-Start
 unfolding effect
-returns-in-Start c = simp (c.in-Start.is, c.with_converting.ensures)
+returns-in-Start c = simp c.in-Start.is
 
 pub returns-in-Stop : goal.returns-in-Stop
 unfolding effect
-returns-in-Stop c = simp (c.in-Stop.is, c.with_converting-in-Stop.ensures)
+returns-in-Stop c = simp c.in-Stop.is
 
 pub returns-in-Rdatac : goal.returns-in-Rdatac
 unfolding effect
-returns-in-Rdatac c = simp (c.in-Rdatac.is, c.with_continuous.ensures)
+returns-in-Rdatac c = simp c.in-Rdatac.is
 
 pub returns-in-Sdatac : goal.returns-in-Sdatac
 unfolding effect
-returns-in-Sdatac c = simp (c.in-Sdatac.is, c.with_continuous-in-Sdatac.ensures)
+returns-in-Sdatac c = simp c.in-Sdatac.is
 
 pub returns-in-Rdata : goal.returns-in-Rdata
 unfolding effect
