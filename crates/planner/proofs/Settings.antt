@@ -6,7 +6,8 @@ use mathlib.Core.List.{List, [], ◌∷◌}
 use native.Mathlib.Omega.{arith}
 use borrow.Author.Tests.{eqb-true, eqb-false, eq-eqb, ne_eqb}
 use lib.Dec.{eqb}
-use Rattle.std.specs.List.{list_all, range_with_len}
+use lib.ListN.{length, get_or}
+use Rattle.std.specs.List.{list_all, enumerate_from}
 use Rattle.cases.specs.Every.{every, any_of}
 use Rattle.cases.proofs.Cases.{split, and_both}
 use Rattle.ads1299_registers.specs.Channels.{is_channel}
@@ -70,11 +71,18 @@ all_settable_lem n (a ∷ rest) names values =
     let l = and_both (legal a.field a.value) (all_legal rest) values in
     rw (legal_settable a.field n a.value k.0 l.0, all_settable_lem n rest k.1 l.1)
 
--- the definition goes setting by setting, the code asks std's test of all values' places
-pub legal_all : (r : Request) (more i : ℕ) → list_all (λ k. legal (setting_at r k).field (setting_at r k).value) (range_with_len i more) ≡ all_legal (settings_from r i more)
+index : (i k : ℕ) → i + suc k ≡ i + 1 + k
+index i k = omega arith
+
+-- the definition goes setting by setting, the code asks std's test of all values with their places
+pub legal_all : (r : Request) (xs : List ℕ) (i : ℕ) → ((k : ℕ) → k < length xs → get_or xs k 0 ≡ get_or r.values (i + k) 0)
+    → list_all (λ (p : ℕ × ℕ). legal (setting_at r p.0).field p.1) (enumerate_from i xs) ≡ all_legal (settings_from r i (length xs))
 unfolding settings_from
-legal_all r zero i = refl
-legal_all r (suc more) i = ap (λ b. legal (setting_at r i).field (setting_at r i).value && b) (legal_all r more (i + 1))
+legal_all r [] i same = refl
+legal_all r (x ∷ xs) i same =
+    let e : x ≡ get_or r.values i 0 = same 0 (omega arith) ∙ ap (λ (k : ℕ). get_or r.values k 0) (omega arith) in
+    ap (λ (v : ℕ). legal (setting_at r i).field v && list_all (λ (p : ℕ × ℕ). legal (setting_at r p.0).field p.1) (enumerate_from (i + 1) xs)) e
+    ∙ ap (λ b. legal (setting_at r i).field (setting_at r i).value && b) (legal_all r xs (i + 1) (λ k h. same (suc k) (omega (arith, h)) ∙ ap (λ (j : ℕ). get_or r.values j 0) (index i k)))
 
 -- the settings one by one, as the code goes through them
 pub settings_start : (r : Request) (count : ℕ) → count ≡ value_count r.field → settings r ≡ settings_from r 0 (count - 0)

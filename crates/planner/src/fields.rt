@@ -25,7 +25,10 @@ pub(crate) fn are_legal(request: Request) -> bool
     ensures { result ≡ all_legal (settings request) }
 {
     let count = request::count_values(request.field);
-    (0..count).all(|i| ads1299_fields::is_legal(field_at(request, i), request.values[i]))
+    request.values[..count].iter().enumerate().all(|(i, &value)| ads1299_fields::is_legal(
+        field_at(request, i),
+        value,
+    ))
 }
 
 // The registers with every setting of the request made.
