@@ -6,9 +6,13 @@ use mathlib.Core.List.{List}
 use native.Mathlib.Omega.{arith}
 use lib.ListN.{length}
 use Rattle.cases.proofs.Cases.{split}
+use Rattle.std.specs.Prelude.{Result, Ok, Err}
 use Rattle.refusal.specs.Numbers.{none}
 use Rattle.refusal.specs.First.{accepted}
-use Rattle.readings.specs.Answers.{Reading}
+use Rattle.refusal.specs.declared.Refusal.{Refusal}
+use Rattle.refusal.proofs.Laws.{refused_lem}
+use Rattle.readings.specs.declared.Readout.{Readout}
+use Rattle.readings.specs.Answers.{Reading, reading_answer}
 use Rattle.readings.specs.Reading.{part_bytes}
 use Rattle.lines.specs.Lines.{converter_of, channel_on}
 use Rattle.bench.specs.declared.Bench.{Bench}
@@ -17,6 +21,7 @@ use Rattle.bench_readings.specs.Reading.{bench_reading, bench_part_bytes, bench_
 use Rattle.bench_readings.proofs.Worded.{reading_is}
 use Rattle.capi.specs.Answers.{channel_part, no_part}
 use Rattle.capi.specs.BenchAnswers.{bench_part}
+use Rattle.capi.specs.Results.{located}
 use Rattle.capi.proofs.Parts.{part_taken, part_refused}
 
 module _ (b : Bench) (k party n : ℕ) (frame : List ℕ) where
@@ -48,3 +53,10 @@ module _ (b : Bench) (k party n : ℕ) (frame : List ℕ) where
       part_is v ∙ part_refused (at b (converter_of n)) party (channel_on k n) frame (rw v at e)
       ∙ ap (λ (r : Reading). no_part r.refusal) (sym (reading_is b v k party n frame)))
       (λ v. rw v)
+
+  pub bench_part_located : (r : Result Readout Refusal) → reading_answer r ≡ bench_reading b k party n frame
+      → located r (channel_on k n) (bench_part_bytes b k party n frame) ≡ bench_part b k party n frame
+  bench_part_located (Ok o) e = sym (bench_part_taken (ap (λ (a : Reading). a.refusal) (sym e)))
+  bench_part_located (Err x) e =
+      let number = ap (λ (a : Reading). a.refusal) (sym e) in
+      sym (bench_part_refused (rw number (refused_lem x)) ∙ ap no_part number)

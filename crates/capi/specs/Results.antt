@@ -1,10 +1,11 @@
 -- For every case of what a call hands back, its flat answer. Where it is refused, the bytes that were given stand in it.
-use Rattle.std.specs.Prelude.{Result, Ok, Err}
+use Rattle.std.specs.Prelude.{ℕ, ◌*◌, List, length, Result, Ok, Err}
 use Rattle.refusal.specs.Numbers.{none}
 use Rattle.refusal.specs.declared.Refusal.{Refusal}
 use Rattle.refusal.specs.Refusals.{number_of}
 use Rattle.ads1299.specs.declared.Converter.{Converter}
 use Rattle.ads1299.specs.declared.Exchange.{Exchange}
+use Rattle.readings.specs.declared.Readout.{Readout}
 use Rattle.planner.specs.declared.ConverterPlan.{ConverterPlan}
 use Rattle.bench.specs.declared.Bench.{Bench}
 use Rattle.bench_planner.specs.declared.BenchPlan.{BenchPlan}
@@ -41,6 +42,11 @@ flat_plan_answer f (Err refusal) = record { refusal = number_of refusal; length 
 abbrev pub flat_part_answer : Result Located Refusal → FlatPart
 flat_part_answer (Ok part) = record { refusal = none; start = part.start; length = part.length }
 flat_part_answer (Err refusal) = no_part (number_of refusal)
+
+-- gives the part that goes with a reading, from the channel as its converter counts it and the part's bytes
+abbrev pub located : Result Readout Refusal → ℕ → List ℕ → FlatPart
+located (Ok readout) channel part = record { refusal = none; start = 3 * channel; length = length part }
+located (Err refusal) channel part = no_part (number_of refusal)
 
 -- gives the answer to a byte for one of a bench's converters
 abbrev pub flat_bench_step_answer : FlatBench → Result (Exchange Bench) Refusal → FlatBenchStepped

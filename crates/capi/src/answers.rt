@@ -2,17 +2,17 @@
 ghost use Rattle.std.specs.Prelude.{◌≡◌};
 ghost use Rattle.readings.specs.Answers.{reading_answer};
 ghost use Rattle.capi.specs.Answers.{flat_reading};
-ghost use Rattle.capi.specs.Results.{flat_step_answer, flat_moved_answer, flat_plan_answer, flat_part_answer};
+ghost use Rattle.capi.specs.Results.{flat_step_answer, flat_moved_answer, flat_plan_answer, flat_part_answer, located};
 
 use crate::{FlatMoved, FlatPart, FlatPlanned, FlatReading, FlatStepped};
 use ads1299::{Converter, Exchange};
-use ads1299_codes::Rail;
+use ads1299_codes::{Rail, WORD_LENGTH};
 use flat::FlatConverter;
 use planner::ConverterPlan;
 use readings::Readout;
 use refusal::Refusal;
 
-// Where a channel's bytes lie in a frame.
+// Where a channel's bytes lie in a frame. start and length are C's; a Range would be taken apart again.
 #[derive(Clone, Copy)]
 pub(crate) struct Located {
     pub start: usize,
@@ -93,6 +93,21 @@ pub(crate) fn reading(reading: Result<Readout, Refusal>) -> FlatReading
             code: 0,
         },
     }
+}
+
+// Where the part that goes with a reading lies in the frame, from the channel as its converter counts it.
+pub(crate) fn locate(
+    reading: Result<Readout, Refusal>,
+    channel: u32,
+    part: &[u8],
+) -> Result<Located, Refusal>
+    ensures { flat_part_answer result ≡ located reading channel part.now }
+{
+    reading?;
+    Ok(Located {
+        start: WORD_LENGTH * channel as usize,
+        length: part.len(),
+    })
 }
 
 pub(crate) fn part(located: Result<Located, Refusal>) -> FlatPart

@@ -1,4 +1,5 @@
-// The flat answer of a bench for every case of what a call hands back. Twins of those of one converter: C has structs of its own for each.
+// The flat answer of a bench for every case of what a call hands back. C has a struct of its own for each; one
+// generic function would state its contract by From's member for any flat type, and two matches are plainer.
 ghost use Rattle.std.specs.Prelude.{◌≡◌};
 ghost use Rattle.capi.specs.Results.{flat_bench_step_answer, flat_bench_moved_answer, flat_bench_plan_answer};
 

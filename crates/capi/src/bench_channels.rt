@@ -1,4 +1,4 @@
-// Grants and readings on a bench.
+// Grants and readings on a bench. `given` has a name, as in channels.rt.
 ghost use Rattle.std.specs.Prelude.{◌≡◌};
 ghost use Rattle.bench_grants.specs.Grant.{bench_granted};
 ghost use Rattle.bench_readings.specs.Reading.{bench_reading};
@@ -9,7 +9,6 @@ ghost use Rattle.capi.specs.Results.{flat_part_answer};
 use super::answers::{self, Located};
 use super::bench_answers;
 use crate::{FlatBenchMoved, FlatPart, FlatReading};
-use ads1299_codes::WORD_LENGTH;
 use bench::Bench;
 use bench_readings::read_channel;
 use flat_bench::FlatBench;
@@ -54,11 +53,9 @@ fn locate_part(
 ) -> Result<Located, Refusal>
     ensures { flat_part_answer result ≡ bench_part bench number party channel frame.now }
 {
-    read_channel(bench, number, party, channel, frame)?;
-    Ok(Located {
-        start: WORD_LENGTH * lines::channel_on(number, channel) as usize,
-        length: bench_readings::channel_bytes(bench, number, party, channel, frame).len(),
-    })
+    let reading = read_channel(bench, number, party, channel, frame);
+    let part = bench_readings::channel_bytes(bench, number, party, channel, frame);
+    answers::locate(reading, lines::channel_on(number, channel), part)
 }
 
 #[unsafe(no_mangle)]

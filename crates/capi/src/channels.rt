@@ -1,4 +1,4 @@
-// Grants and readings.
+// Grants and readings. `given` has a name, as the calls do not fit on one line with it and a broken chain is no plainer.
 ghost use Rattle.std.specs.Prelude.{◌≡◌};
 ghost use Rattle.grants.specs.Grant.{granted};
 ghost use Rattle.readings.specs.Reading.{channel_reading};
@@ -9,7 +9,6 @@ ghost use Rattle.capi.specs.Results.{flat_part_answer};
 use super::answers::{self, Located};
 use crate::{FlatMoved, FlatPart, FlatReading};
 use ads1299::Converter;
-use ads1299_codes::WORD_LENGTH;
 use flat::FlatConverter;
 use refusal::Refusal;
 
@@ -50,11 +49,9 @@ fn locate_part(
 ) -> Result<Located, Refusal>
     ensures { flat_part_answer result ≡ channel_part converter party channel frame.now }
 {
-    readings::read_channel(converter, party, channel, frame)?;
-    Ok(Located {
-        start: WORD_LENGTH * channel as usize,
-        length: readings::channel_bytes(converter, party, channel, frame).len(),
-    })
+    let reading = readings::read_channel(converter, party, channel, frame);
+    let part = readings::channel_bytes(converter, party, channel, frame);
+    answers::locate(reading, channel, part)
 }
 
 #[unsafe(no_mangle)]

@@ -60,6 +60,7 @@ pub extern "C" fn rimevelvet_request_write(request: Request, buffer: &mut [u8]) 
     }
 }
 
+// Not one with a bench's: the states, the planners and the answers are of different types, and C has a struct for each.
 fn plan(
     state: FlatConverter,
     party: u32,
