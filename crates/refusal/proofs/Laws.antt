@@ -1,7 +1,7 @@
 -- The numbers are told apart by the refusal that each one names.
 use Rattle.std.specs.Prelude.{ℕ, false, cond, eqb, ◌≡◌}
 use mathlib.Core.Path.{refl, ◌∙◌, ap, sym}
-use Rattle.refusal.specs.Numbers.{truncated, malformed, unknown_party, unknown_field, wrong_channel, not_owner, bad_value, not_waiting, no_room, not_converting, bad_sample, bad_frame, invalid_state, input_too_long, empty_list}
+use Rattle.refusal.specs.Numbers.{truncated, malformed, unknown_party, unknown_field, wrong_channel, not_owner, bad_value, not_waiting, no_room, not_converting, bad_sample, bad_frame, invalid_state, input_too_long}
 use Rattle.refusal.specs.declared.Refusal.{Refusal}
 use Rattle.refusal.specs.declared.Refusal.TheVariants.{Truncated, Malformed, UnknownParty, UnknownField, WrongChannel, NotOwner, BadValue, NotWaiting, NoRoom, NotConverting, BadSample, BadFrame, InvalidState, InputTooLong, EmptyList}
 use Rattle.refusal.specs.First.{accepted}
