@@ -1,5 +1,6 @@
 // The fields of the registers: with which channel each is named, where it lies, and which values it takes. Every number
-// is judged as it comes, and never cut to a byte before.
+// is judged as it comes, and never cut to a byte before. Numbers and no enum: a request crosses the C interface with any number,
+// and is_field, place and legal say what each of them is.
 #![tactic(auto)]
 
 mod map;
@@ -105,7 +106,8 @@ pub fn is_channel_field(field: u32) -> bool
     field == WHOLE_CHANNEL || (1..=CHANNEL_FIELDS).contains(&field)
 }
 
-// Whether the field is to be named with this channel.
+// Whether the field is to be named with this channel. Field, channel and value are numbers as a request has them, judged one by one;
+// the definitions take them so.
 pub fn takes_channel(field: u32, channel: u32) -> bool
     ensures { result ≡ takes_channel field channel }
 {

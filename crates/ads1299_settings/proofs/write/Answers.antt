@@ -14,8 +14,8 @@ bounds-registers-register c = rw c.locate-place.ensures (place_in_list _ _)
 pub overflow_cast-value : goal.overflow_cast-value
 overflow_cast-value c = record { fits = (facts c.before.before).small }
 
-pub bounds-written-register : goal.bounds-written-register
-bounds-written-register c = rw c.locate-place.ensures (place_in_list _ _)
+pub bounds-registers-register-then-is_settable : goal.bounds-registers-register-then-is_settable
+bounds-registers-register-then-is_settable c = rw c.locate-place.ensures (place_in_list _ _)
 
 pub returns-then-is_settable : goal.returns-then-is_settable
 unfolding with_field write_at
