@@ -2,7 +2,8 @@
 // what power-up and a frame make of it.
 #![tactic(auto)]
 
-ghost use Rattle.std.specs.Prelude.{◌≡◌};
+ghost use Rattle.std.specs.Prelude.{◌≡◌, ◌<◌};
+ghost use Rattle.bits.specs.Fields.{bit};
 ghost use Rattle.ads7953.specs.Modes.{mode_number};
 
 mod frame;
@@ -49,4 +50,13 @@ impl From<Mode> for u8 {
     fn from(mode: Mode) -> u8 {
         mode as u8
     }
+}
+
+// Whether a word's bit is 1. Of a word: the crate bits speaks of a byte.
+#[tactic(auto, unfolding(bits::specs::Fields::field, bits::specs::Fields::bit))]
+fn is_set(word: u16, place: u8) -> bool
+    requires { place < 16 }
+    ensures { result ≡ bit word place }
+{
+    (word >> place) % 2 == 1
 }

@@ -2,7 +2,6 @@
 ghost use Rattle.std.specs.Prelude.{◌≡◌};
 ghost use Rattle.ads7953.specs.Scan.{found_from, lowest_listed, next_listed, next_up_to, next_in, start_in};
 
-use super::words;
 use crate::{Ads7953, CHANNELS, Mode};
 
 impl Ads7953 {
@@ -10,7 +9,7 @@ impl Ads7953 {
     fn listed_from(self, from: u8) -> Option<u8>
         ensures { result ≡ found_from self.list from }
     {
-        (from..CHANNELS).find(|channel| words::is_set(self.list, *channel))
+        (from..CHANNELS).find(|channel| crate::is_set(self.list, *channel))
     }
 
     // The lowest listed channel; the present one where the list is empty.

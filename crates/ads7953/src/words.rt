@@ -1,7 +1,9 @@
 // A word's bits, DI15 to DI00, by document 001's tables. DI05 to DI00 (power-down, GPIO) are not looked at.
-ghost use Rattle.std.specs.Prelude.{◌≡◌, ◌<◌, ◌≤◌};
-ghost use Rattle.bits.specs.Fields.{field, bit};
+ghost use Rattle.std.specs.Prelude.{◌≡◌, ◌<◌};
+ghost use Rattle.bits.specs.Fields.{field};
 ghost use Rattle.ads7953.specs.Words.{decoded, programs, retained, resets_counter, selects_range2, channel_in, last_in};
+
+use crate::is_set;
 
 // DI15-12.
 const MANUAL: u8 = 1;
@@ -24,16 +26,7 @@ pub(crate) enum Command {
     ProgramAuto2,
 }
 
-// Whether a word's bit is 1. Of a word: the crate bits speaks of a byte.
-#[tactic(auto, unfolding(bits::specs::Fields::field, bits::specs::Fields::bit))]
-pub(crate) fn is_set(word: u16, place: u8) -> bool
-    requires { place < 16 }
-    ensures { result ≡ bit word place }
-{
-    (word >> place) % 2 == 1
-}
-
-// The four bits of a word from one on. Of a word, as is_set.
+// The four bits of a word from one on. Of a word: the crate bits speaks of a byte.
 #[tactic(auto, unfolding(bits::specs::Fields::field))]
 fn four_bits(word: u16, from: u8) -> u8
     requires { from < 16 }
