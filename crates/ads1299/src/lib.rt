@@ -25,7 +25,7 @@ pub struct Converter {
 }
 
 // What power-up answers, of a converter or of several. No Result: a refused power-up hands back a state too (document 01, "Refusal
-// numbers").
+// numbers"; definition ads1299.PowerUp.powered_up).
 #[derive(Clone, Copy)]
 pub struct Startup<S> {
     pub refusal: Option<Refusal>,

@@ -78,7 +78,7 @@ fn classify(code: i32) -> Rail
     }
 }
 
-// Decodes three bytes, high byte first.
+// Decodes three bytes, high byte first. One by one, as word takes them and a frame that may be short gives them.
 #[tactic(auto, unfolding(crate::specs::Rails::decoded))]
 pub fn decode(high: u8, middle: u8, low: u8) -> Decoded
     ensures { result ≡ decoded (code_of (word high middle low)) }

@@ -4,7 +4,8 @@
 ghost use Rattle.std.specs.Prelude.{◌≡◌};
 ghost use Rattle.ads1299_commands.specs.Commands.{register_command, decoded, acts_awake, acts};
 
-// By their data sheet names. RREG and WREG carry the first address in their low five bits.
+// By their data sheet names. RREG and WREG carry the first address in their low five bits, so that no enum has these as its numbers;
+// the planner sends them as bytes.
 pub const WAKEUP: u8 = 0x02;
 
 pub const STANDBY: u8 = 0x04;
@@ -71,6 +72,7 @@ pub fn decode(byte: u8) -> Command
     }
 }
 
+// Standby, continuous and converting go one by one: a converter has them beside its arrays, and acts takes them so.
 fn acts_awake(command: Command, continuous: bool, converting: bool) -> bool
     ensures { result ≡ acts_awake command continuous converting }
 {

@@ -42,6 +42,7 @@ fn status_bytes(p: u8, n: u8, gpio: u8) -> [u8; WORD_LENGTH]
 }
 
 // The three bytes of word i of a frame: word 0 is the status word, word n is channel n's.
+// Registers, codes, P and N go one by one, as ads1299's sample and frame_of take them.
 #[tactic(auto, unfolding(crate::specs::Frame::frame_word))]
 fn word_bytes(
     registers: [u8; ads1299_registers::COUNT],

@@ -72,7 +72,7 @@ impl Ads7953 {
         }
     }
 
-    // A match and no table of functions: the commands are the data sheet's closed list.
+    // A match and no table of functions: the commands are the data sheet's closed list, and each arm says what one does.
     #[tactic(auto, unfolding(crate::specs::Latch::commanded))]
     fn command(mut self, command: Command, word: u16) -> Ads7953
         ensures { result ≡ commanded command self word }

@@ -5,7 +5,7 @@ ghost use Rattle.ads7953.specs.Words.{decoded, programs, retained, resets_counte
 
 use crate::is_set;
 
-// DI15-12.
+// DI15-12. Beside the enum, not its numbers: the other eleven are Continue.
 const MANUAL: u8 = 1;
 
 const AUTO1: u8 = 2;

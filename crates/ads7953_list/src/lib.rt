@@ -36,7 +36,8 @@ fn make_plan(list: u16) -> [u8; LENGTH]
 }
 
 // Plans a list, bit n for channel n: the plan goes into the transmit buffer (document 01: sheet) from a place on, and all else there
-// stays. Gives the plan's length; no state after, since the plan is sent in frames that have codes.
+// stays. Gives the plan's length; no state after, since the plan is sent in frames that have codes. The parameters go one by one, as C passes
+// them.
 #[tactic(auto, using(crate::proofs::Accepted::within, crate::proofs::Accepted::planned_at), unfolding(crate::specs::Planned::list_planned, crate::specs::Planned::list_tx_after))]
 pub fn plan_list(
     state: Ads7953,

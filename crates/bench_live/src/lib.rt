@@ -20,7 +20,7 @@ pub struct LivePlan {
     pub length: usize,
 }
 
-// One call of the planner and one store.
+// One call of the planner and one store. Here and below the parameters go one by one, as bench_planner's.
 pub fn plan_live(
     live: &mut Bench,
     party: u32,

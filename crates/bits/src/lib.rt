@@ -1,4 +1,5 @@
-// A field of a byte, by its lowest bit and its width: read, replaced, and a write through a mask.
+// A field of a byte, by its lowest bit and its width: read, replaced, and a write through a mask. Bit and width go one by one, as the
+// definitions take them; ads1299_fields::Place is the struct that has them, with their register.
 #![tactic(auto)]
 
 ghost use Rattle.std.specs.Prelude.{◌≡◌, cond, ◌≤◌, ◌^◌};

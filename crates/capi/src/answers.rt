@@ -1,4 +1,5 @@
-// The flat answer for every case of what a call hands back. Where it is refused, the bytes that were given stand in it.
+// The flat answer for every case of what a call hands back. Where it is refused, the bytes that were given stand in it: they come beside
+// the Result, so that this is no From.
 ghost use Rattle.std.specs.Prelude.{◌≡◌};
 ghost use Rattle.readings.specs.Answers.{reading_answer};
 ghost use Rattle.capi.specs.Answers.{flat_reading};

@@ -43,7 +43,8 @@ pub extern "C" fn rimevelvet_bench_read_channel(
     answers::reading(reading)
 }
 
-// Where the part that bench_readings::channel_bytes hands back lies in the frame.
+// Where the part that bench_readings::channel_bytes hands back lies in the frame. Not one with a converter's: the calls and the states are
+// of different types, and what both do with them is answers::locate.
 fn locate_part(
     bench: Bench,
     number: u32,

@@ -16,7 +16,7 @@ use refusal::Refusal;
 use request::Request;
 
 // By way of the live form, on a copy of the bench. Not one with a converter's: the states, the planners and the answers are of different
-// types, and C has a struct for each.
+// types, and C has a struct for each. The parameters go one by one, as C passes them.
 fn plan(
     bench: FlatBench,
     party: u32,

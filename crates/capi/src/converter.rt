@@ -1,4 +1,5 @@
-// The converter's entry points: power-up, a byte, a select rise and a sample.
+// The converter's entry points: power-up, a byte, a select rise and a sample. A bench's are bench_lines.rt: C has a call and a struct
+// for each.
 ghost use Rattle.std.specs.Prelude.{◌≡◌};
 ghost use Rattle.ads1299.specs.PowerUp.{powered_up};
 ghost use Rattle.ads1299.specs.Step.{stepped};

@@ -1,5 +1,6 @@
 // The library for other languages: every entry point as a C function, over a state and answers that are plain numbers. No state is
-// kept here.
+// kept here. C has no Result and no generics: each answer has the refusal's number beside its values, and a converter and a bench have each
+// their calls and structs.
 #![tactic(auto)]
 
 mod answers;

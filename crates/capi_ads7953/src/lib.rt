@@ -1,4 +1,5 @@
-// The ADS7953's entry points for other languages, over its flat form. No state is kept here.
+// The ADS7953's entry points for other languages, over its flat form. No state is kept here. C has no Result: each answer has the refusal's
+// number beside its values, and a call and a struct of its own.
 #![tactic(auto)]
 
 ghost use Rattle.std.specs.Prelude.{◌≡◌};
@@ -59,7 +60,7 @@ pub extern "C" fn rimevelvet_ads7953_frame(part: FlatAds7953, word: u16, code: u
     }
 }
 
-// A list for the part whose state the bytes stand for.
+// A list for the part whose state the bytes stand for. The parameters go one by one, as C passes them.
 fn plan_list(
     part: FlatAds7953,
     party: u32,

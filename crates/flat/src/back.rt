@@ -8,6 +8,7 @@ use ads1299::Converter;
 use ads1299_serial::{Direction, Phase, Transfer};
 use refusal::Refusal;
 
+// Bytes go one by one here and below, as the C struct has them and the definitions take them.
 fn are_flags(continuous: u8, standby: u8, converting: u8) -> bool
     ensures { result ≡ are_flags continuous standby converting }
 {
@@ -32,7 +33,8 @@ fn is_phase(code: u8, direction: u8, address: u8, remaining: u8) -> bool
     }
 }
 
-// Whether the bytes stand for a state. Whether a converter can be in that state is judged by each call.
+// Whether the bytes stand for a state. Whether a converter can be in that state is judged by each call. Beside TryFrom: what was public
+// stays (docs/RULES.md names it).
 #[tactic(auto, unfolding(crate::specs::States::is_state))]
 pub fn is_state(state: FlatConverter) -> bool
     ensures { result ≡ is_state state }
@@ -74,7 +76,7 @@ fn phase_of(code: u8, transfer: Transfer) -> Phase
 pub fn state_of(state: FlatConverter) -> Converter
     ensures { result ≡ state_of state }
 {
-    // Taken apart: the check's borrow pass takes no array straight from another's field into a literal.
+    // Taken apart: the check's borrow pass refuses the arrays of these fields straight in the literal below.
     let FlatConverter {
         registers,
         owners,

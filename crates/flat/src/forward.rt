@@ -7,6 +7,7 @@ use crate::FlatConverter;
 use ads1299::Converter;
 use ads1299_serial::{Direction, Phase, Transfer};
 
+// No From: the number alone is not the phase, whose transfer goes into three bytes more.
 fn phase_code(phase: Phase) -> u8
     ensures { result ≡ phase_code phase }
 {
@@ -17,7 +18,7 @@ fn phase_code(phase: Phase) -> u8
     }
 }
 
-// The transfer under way; all 0 between commands.
+// The transfer under way; all 0 between commands, as the C header has it. No Default: a transfer as such has none.
 fn transfer_of(phase: Phase) -> Transfer
     ensures { result ≡ transfer_of phase }
 {

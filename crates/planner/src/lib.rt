@@ -175,7 +175,8 @@ fn change(c: Converter, request: Request) -> Converter
 }
 
 // Plans a request: the plan goes into the transmit buffer (document 01: sheet) from a place on, and all else there stays.
-// Party, request, buffer and place go one by one, as C passes them; the clauses speak of the first two by the record submission.
+// Party, request, buffer and place go one by one, as C passes them; the clauses speak of the first two by the record submission. Clause
+// formed is no invariant: the type has it, and a record of the logic, whose lists have any length, need not.
 pub fn plan(
     c: Converter,
     party: u32,
