@@ -1,4 +1,4 @@
-pub mod Storing
+pub mod Writing
 pub mod Texts
 pub mod Lines
 pub mod Turns

@@ -1,14 +1,13 @@
 -- A session, one request after the other.
-use mathlib.Core.Path.{◌≡◌, refl, sym, ap, ◌∙◌}
+use mathlib.Core.Path.{◌≡◌, refl, ap, ◌∙◌}
 use mathlib.Core.Bool.{true, false}
 use mathlib.Core.List.{List, [], ◌++◌}
-use Prim.Native.Nat.{ℕ, zero, suc, ◌+◌, ◌≤◌, ◌<◌}
+use Prim.Native.Nat.{ℕ, zero, suc, ◌-◌, ◌≤◌, ◌<◌}
 use native.Mathlib.Omega.{arith}
+use borrow.Author.Rules.{part_to_end}
 use borrow.Author.Tests.{eq-eqb, ne_eqb, eqb-false}
 use lib.Dec.{eqb}
-use lib.ListN.{length, drop, length-append, length-drop}
-use Rattle.splice.specs.Splice.{spliced}
-use Rattle.splice.proofs.Splice.{splices_join}
+use lib.ListN.{length, take, drop, length-append, length-drop}
 use Rattle.cases.proofs.Cases.{split}
 use Rattle.ads1299.specs.declared.Converter.{Converter}
 use Rattle.console.specs.declared.Turn.{Turn}
@@ -48,36 +47,16 @@ pub no_more : (s : Converter) (party : ℕ) (rest : List ℕ) → length rest �
 unfolding session lines
 no_more s party rest h = enough (length rest) 0 s party rest (omega arith) (omega arith)
 
--- one turn of the code, from what is left of the bytes and a place in the text
-module _ (s : Converter) (party place : ℕ) (rest out : List ℕ) (h : 0 < length rest) where
+-- one turn of the code, and the rest that it goes on with
+module _ (s : Converter) (party : ℕ) (rest : List ℕ) (h : 0 < length rest) where
   pub room : length (printed s party rest) ≤ length (session s party rest)
   room = omega (arith, ap length (one_by_one s party rest h), length-append (printed s party rest) (session (next_state s party rest) party (drop (consumed rest) rest)))
 
-  module _ (t : Turn) (et : t ≡ turn s party rest place) where
+  module _ (t : Turn) (et : t ≡ turn s party rest) where
     pub goes_on : (0 < t.used) × (t.used ≤ length rest)
     unfolding turn
-    goes_on =
-        let u : t.used ≡ consumed rest = ap (λ (x : Turn). x.used) et in
-        (omega (arith, some_consumed rest h), omega (arith, consumed_within rest h))
+    goes_on = rw et (some_consumed rest h, consumed_within rest h)
 
-    after : session s party rest ≡ printed s party rest ++ session t.next party (drop t.used rest)
+    pub text : session s party rest ≡ printed s party rest ++ session t.next party (take (length rest - t.used) (drop t.used rest))
     unfolding turn
-    after = one_by_one s party rest h ∙ rw et
-
-    pub text_length : place + length (session s party rest) ≡ t.place + length (session t.next party (drop t.used rest))
-    unfolding turn
-    text_length =
-        let p : t.place ≡ place + length (printed s party rest) = ap (λ (x : Turn). x.place) et in
-        omega (arith, ap length after, length-append (printed s party rest) (session t.next party (drop t.used rest)))
-
-    pub text : place + length (session s party rest) ≤ length out
-        → (more : List ℕ) → more ≡ spliced out place (printed s party rest)
-        → spliced out place (session s party rest) ≡ spliced more t.place (session t.next party (drop t.used rest))
-    unfolding turn
-    text fits more em =
-        let first = printed s party rest in
-        let second = session t.next party (drop t.used rest) in
-        let p : t.place ≡ place + length first = ap (λ (x : Turn). x.place) et in
-        ap (spliced out place) after
-        ∙ sym (splices_join out place first second (omega (arith, ap length after, length-append first second)))
-        ∙ (λ i. spliced (sym em i) (sym p i) second)
+    text = rw (part_to_end rest t.used, et) (one_by_one s party rest h)

@@ -7,8 +7,6 @@ use borrow.Author.Tests.{lt-ltb, le-ltb}
 use native.Mathlib.Numerals.{add-one}
 use lib.ListN.{length, take, get_or, length-append}
 use lib.Seq.{take-suc, length-take-le}
-use Rattle.splice.specs.Splice.{spliced}
-use Rattle.splice.proofs.Splice.{splices_join}
 use Rattle.console.specs.Text.{digit, decimal, hex, hexes}
 
 pub one_digit : (n : ℕ) → n < 10 → decimal n ≡ digit n ∷ []
@@ -33,15 +31,10 @@ unfolding hexes
 hexes_snoc [] b = append-nil (hex b)
 hexes_snoc (a ∷ l) b = ap (λ (r : List ℕ). hex a ++ r) (hexes_snoc l b) ∙ sym (append_assoc (hex a) (hexes l) (hex b))
 
--- the bytes so far, and one more
-pub next_hex : (bytes out₀ : List ℕ) (at i : ℕ) → i < length bytes
-    → at + length (hexes bytes) ≤ length out₀
-    → spliced (spliced out₀ at (hexes (take i bytes))) (at + 3 * i) (hex (get_or bytes i 0)) ≡ spliced out₀ at (hexes (take (i + 1) bytes))
-next_hex bytes out₀ at i h fits =
-    let first = hexes (take i bytes) in
-    let second = hex (get_or bytes i 0) in
-    let n : length (hexes (take i bytes)) ≡ 3 * i = length_hexes (take i bytes) ∙ omega (arith, length-take-le i bytes (omega arith)) in
-    let t : hexes (take (i + 1) bytes) ≡ hexes (take i bytes) ++ hex (get_or bytes i 0) = ap (λ (m : ℕ). hexes (take m bytes)) (add-one i) ∙ ap hexes (take-suc bytes i 0 h) ∙ hexes_snoc (take i bytes) (get_or bytes i 0) in
-    ap (λ (k : ℕ). spliced (spliced out₀ at first) (at + k) second) (sym n)
-    ∙ splices_join out₀ at first second (omega (arith, length_hex (get_or bytes i 0), length_hexes bytes))
-    ∙ ap (spliced out₀ at) (sym t)
+-- the bytes so far
+pub hexes_so_far : (bytes : List ℕ) (i : ℕ) → i ≤ length bytes → length (hexes (take i bytes)) ≡ 3 * i
+hexes_so_far bytes i h = length_hexes (take i bytes) ∙ omega (arith, length-take-le i bytes h)
+
+-- and one more
+pub next_hex : (bytes : List ℕ) (i : ℕ) → i < length bytes → hexes (take (i + 1) bytes) ≡ hexes (take i bytes) ++ hex (get_or bytes i 0)
+next_hex bytes i h = ap (λ (m : ℕ). hexes (take m bytes)) (add-one i) ∙ ap hexes (take-suc bytes i 0 h) ∙ hexes_snoc (take i bytes) (get_or bytes i 0)

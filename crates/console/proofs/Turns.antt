@@ -2,7 +2,7 @@
 use mathlib.Core.Path.{◌≡◌, sym, ap, ◌∙◌}
 use mathlib.Core.Bool.{true, false}
 use mathlib.Core.List.{List, []}
-use Prim.Native.Nat.{ℕ, ◌+◌, ◌≤◌, ◌<◌}
+use Prim.Native.Nat.{ℕ, ◌≤◌, ◌<◌}
 use native.Mathlib.Omega.{arith}
 use borrow.Author.Tests.{eqb-true}
 use lib.ListN.{length, take, replicate}
@@ -37,11 +37,8 @@ short s x = split (accepted (refusal_of s x)) (λ a. rw a (plans_fit s x.request
 
 -- a request that is planned into an empty buffer
 module _ (s : Converter) (party : ℕ) (r : Request) (t : Planned) (tx : List ℕ) (et : t ≡ planned s (asked party r)) (ex : tx ≡ tx_after s (asked party r) (replicate longest_plan 0) 0) where
-  pub plan_within : t.length ≤ longest_plan
-  plan_within = rw et (short s (asked party r))
-
-  pub buffer_whole : length tx ≡ longest_plan
-  buffer_whole = rw ex (placement s party r (replicate longest_plan 0) 0).size
+  pub plan_within : t.length ≤ length tx
+  plan_within = rw (et, ex) (omega (arith, short s (asked party r), (placement s party r (replicate longest_plan 0) 0).size))
 
   pub plan_line : answered s (asked party r) ≡ line t.refusal (take t.length tx)
   plan_line = rw (et, ex, shown s (asked party r) (replicate longest_plan 0))
@@ -56,9 +53,9 @@ module _ (s : Converter) (party : ℕ) (bytes : List ℕ) (p : Parsed) (e : p �
     unfolding printed
     refused_line = rw (sym is_judged ∙ no, e)
 
-    pub refused_turn : (at place : ℕ) → place ≡ at + length (line p.refusal []) → record { used = length bytes; place = place; next = s } ≡ turn s party bytes at
+    pub refused_turn : record { used = length bytes; next = s } ≡ turn s party bytes
     unfolding turn next_state consumed
-    refused_turn at place h = rw (refused_line, sym is_judged ∙ no, h)
+    refused_turn = rw (sym is_judged ∙ no)
 
   -- a request is read
   module _ (yes : accepted p.refusal ≡ true) where
@@ -66,10 +63,9 @@ module _ (s : Converter) (party : ℕ) (bytes : List ℕ) (p : Parsed) (e : p �
     unfolding printed
     answered_line = rw (sym is_judged ∙ yes, e)
 
-    pub answered_turn : (at place : ℕ) (next : Converter) → place ≡ at + length (answered s (asked party p.request)) → next ≡ (planned s (asked party p.request)).next
-        → record { used = p.used; place = place; next = next } ≡ turn s party bytes at
+    pub answered_turn : (next : Converter) → next ≡ (planned s (asked party p.request)).next → record { used = p.used; next = next } ≡ turn s party bytes
     unfolding turn next_state consumed
-    answered_turn at place next h n = rw (answered_line, sym is_judged ∙ yes, h, n, e)
+    answered_turn next n = rw (sym is_judged ∙ yes, n, e)
 
 module _ (bytes : List ℕ) (h : 0 < length bytes) where
   -- a request has at least a byte for each of the fewest numbers

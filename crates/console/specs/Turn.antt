@@ -1,5 +1,5 @@
 -- One request (document 01: slip) of the program's input: what it prints, and what it leaves for the next.
-use Rattle.std.specs.Prelude.{ℕ, ◌+◌, Bool, cond, List, [], length, replicate}
+use Rattle.std.specs.Prelude.{ℕ, Bool, cond, List, [], length, replicate}
 use Rattle.refusal.specs.First.{accepted}
 use Rattle.ads1299_registers.specs.Addresses.{channel_count}
 use Rattle.request.specs.declared.Request.{Request}
@@ -53,6 +53,6 @@ next_state s party bytes = cond (is_read bytes) (planned s (submitted party byte
 unfoldable pub consumed : List ℕ → ℕ
 consumed bytes = cond (is_read bytes) (parsed bytes).used (length bytes)
 
--- gives all that one request leaves, its line being written at a place
-unfoldable pub turn : Converter → ℕ → List ℕ → ℕ → Turn
-turn s party bytes at = record { used = consumed bytes; place = at + length (printed s party bytes); next = next_state s party bytes }
+-- gives all that one request leaves beside its line
+unfoldable pub turn : Converter → ℕ → List ℕ → Turn
+turn s party bytes = record { used = consumed bytes; next = next_state s party bytes }
