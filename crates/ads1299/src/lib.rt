@@ -10,7 +10,7 @@ mod validity;
 use ads1299_serial::Phase;
 use refusal::Refusal;
 
-// The order of the fields keeps each array at a multiple of 16 bytes.
+// The order of the fields keeps the long arrays at multiples of 16 bytes.
 #[derive(Clone, Copy)]
 pub struct Converter {
     pub registers: [u8; ads1299_registers::COUNT],

@@ -40,7 +40,7 @@ impl Converter {
         0x00, // CONFIG4
     ];
 
-    // The bits that a write changes. A row a register, as POWER_UP.
+    // The bits that a write changes, a row a register. No pairs with POWER_UP: document 01 names each as a constant of its own.
     pub const MASK: [u8; ads1299_registers::COUNT] = [
         0x00, // ID
         0x67, // CONFIG1

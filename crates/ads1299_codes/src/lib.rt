@@ -57,11 +57,12 @@ pub fn all_in_range(codes: &[i32]) -> bool
     codes.iter().all(|code| in_range(*code))
 }
 
-// The code of three bytes, high byte first. There is no branch: adding SIGN_WORD within 24 bits takes the words from it on round to 0, and taking it off again leaves them below zero.
+// The code of three bytes, high byte first. There is no branch: adding SIGN_WORD within 24 bits takes the words from it on round to 0,
+// and taking it off again leaves them below zero.
 fn code(high: u8, middle: u8, low: u8) -> i32
     ensures { result ≡ code_of (word high middle low) }
 {
-    // Not from_be_bytes, which takes 11 instructions a code and not 9 (docs/CHECKS.md; document 02, No. 5).
+    // Not from_be_bytes: it compiled to 11 instructions a code, where docs/CHECKS.md has 9 (document 02, No. 5).
     let word = (high as u32) * 0x10000 + (middle as u32) * 0x100 + (low as u32);
     ((word + SIGN_WORD) % WORD_COUNT) as i32 - SIGN_WORD as i32
 }
@@ -78,7 +79,8 @@ fn classify(code: i32) -> Rail
     }
 }
 
-// Decodes three bytes, high byte first. One by one, as word takes them and a frame that may be short gives them.
+// Decodes three bytes, high byte first. They go one by one, as the definition word takes them; ads1299_readout takes each from a frame
+// that may be short.
 #[tactic(auto, unfolding(crate::specs::Rails::decoded))]
 pub fn decode(high: u8, middle: u8, low: u8) -> Decoded
     ensures { result ≡ decoded (code_of (word high middle low)) }
@@ -90,7 +92,7 @@ pub fn decode(high: u8, middle: u8, low: u8) -> Decoded
     }
 }
 
-// Beside From: what could not fail still cannot, and docs/DECISIONS.md promises it by this name.
+// Beside From: docs/DECISIONS.md and docs/RULES.md promise it by this name.
 pub fn rail_number(rail: Rail) -> u8
     ensures { result ≡ rail_number rail }
 {

@@ -4,8 +4,8 @@
 ghost use Rattle.std.specs.Prelude.{◌≡◌};
 ghost use Rattle.ads1299_commands.specs.Commands.{register_command, decoded, acts_awake, acts};
 
-// By their data sheet names. RREG and WREG carry the first address in their low five bits, so that no enum has these as its numbers;
-// the planner sends them as bytes.
+// By their data sheet names. Not discriminants of Command: RREG and WREG carry the first address in their low five bits. The planner
+// sends these bytes.
 pub const WAKEUP: u8 = 0x02;
 
 pub const STANDBY: u8 = 0x04;
@@ -54,7 +54,7 @@ fn decode_register_command(byte: u8) -> Command
     }
 }
 
-// What a byte means while the converter waits.
+// What a byte means while the converter waits. No From: otherwise a byte is no command.
 #[tactic(auto, unfolding(crate::specs::Commands::decoded))]
 pub fn decode(byte: u8) -> Command
     ensures { result ≡ decoded byte }
@@ -72,7 +72,6 @@ pub fn decode(byte: u8) -> Command
     }
 }
 
-// Standby, continuous and converting go one by one: a converter has them beside its arrays, and acts takes them so.
 fn acts_awake(command: Command, continuous: bool, converting: bool) -> bool
     ensures { result ≡ acts_awake command continuous converting }
 {
@@ -86,7 +85,8 @@ fn acts_awake(command: Command, continuous: bool, converting: bool) -> bool
     }
 }
 
-// Whether a command acts, or is ignored.
+// Whether a command acts, or is ignored. Standby, continuous and converting go one by one: Converter and C's struct have a field for
+// each, and acts takes them so.
 #[tactic(auto, unfolding(crate::specs::Commands::acts))]
 pub fn does_act(command: Command, standby: bool, continuous: bool, converting: bool) -> bool
     ensures { result ≡ acts command standby continuous converting }

@@ -1,6 +1,6 @@
 // The fields of the registers: with which channel each is named, where it lies, and which values it takes. Every number
-// is judged as it comes, and never cut to a byte before. Numbers and no enum: a request crosses the C interface with any number,
-// and is_field, place and legal say what each of them is.
+// is judged as it comes, and never cut to a byte before. Numbers and no enum: C passes any number, and is_field, place and legal have an
+// answer for each.
 #![tactic(auto)]
 
 mod map;

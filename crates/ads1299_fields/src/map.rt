@@ -8,7 +8,7 @@ use ads1299_registers::{
     LOFF_SENSN, LOFF_SENSP, MISC1,
 };
 
-// A field that all channels share.
+// A field that all channels share. Register, bit and width go one by one here and below, so that a row of the map is one line.
 fn shared(register: usize, bit: usize, width: u8) -> Entry
     ensures { result ≡ entry_of (row register 0 bit 0 width none_refused) }
 {

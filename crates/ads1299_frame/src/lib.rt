@@ -42,7 +42,7 @@ fn status_bytes(p: u8, n: u8, gpio: u8) -> [u8; WORD_LENGTH]
 }
 
 // The three bytes of word i of a frame: word 0 is the status word, word n is channel n's.
-// Registers, codes, P and N go one by one, as ads1299's sample and frame_of take them.
+// Registers, codes, P and N go one by one, as frame_of takes them.
 #[tactic(auto, unfolding(crate::specs::Frame::frame_word))]
 fn word_bytes(
     registers: [u8; ads1299_registers::COUNT],
@@ -66,7 +66,7 @@ pub fn build(registers: [u8; ads1299_registers::COUNT], codes: &[i32], p: u8, n:
     ensures { result ≡ frame_of registers codes.now p n }
 {
     let mut frame = [0u8; LENGTH];
-    // No chunks_exact_mut: once that borrow is over a proof knows no element.
+    // By index: with chunks_exact_mut the proof does not close, since no clause says what the frame holds once that borrow is over.
     for i in 0..WORDS {
         let bytes = word_bytes(registers, codes, p, n, i);
         let at = WORD_LENGTH * i;

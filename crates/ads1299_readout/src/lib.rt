@@ -46,7 +46,8 @@ fn lead_off(frame: &[u8], at: usize, channel: u32) -> bool
     bits::is_set(byte, channel.saturating_sub(1))
 }
 
-// A channel's lead-off bit of P. P and N have a call each, as they have a definition each.
+// A channel's lead-off bit of P. P and N have a function each: both are public, and their clauses are the definitions lead_off_p and
+// lead_off_n.
 pub fn lead_off_p(frame: &[u8], channel: u32) -> bool
     ensures { result ≡ lead_off_p frame.now channel }
 {

@@ -10,7 +10,7 @@ pub const COUNT: usize = 24;
 
 pub const CHANNELS: usize = 8;
 
-// Numbers and no enum: they index the array of the registers, and an address on the line need name none.
+// Numbers and no enum: each indexes the registers' array, and an address that comes on the line may be no register's.
 pub const ID: usize = 0x00;
 
 pub const CONFIG1: usize = 0x01;
@@ -43,7 +43,7 @@ pub const MISC1: usize = 0x15;
 
 pub const CONFIG4: usize = 0x17;
 
-// Whether the converter has a channel of this number. Numbers and no enum: any number crosses the C interface, and is judged here.
+// Whether the converter has a channel of this number. Numbers and no enum: C passes any number, and it is judged here.
 pub fn is_channel(channel: u32) -> bool
     ensures { result ≡ is_channel channel }
 {

@@ -75,7 +75,8 @@ impl Ads7953 {
         self.latch(word)
     }
 
-    // A frame: takes a word, and the code of the channel that is sampled at the frame's start; gives a reply.
+    // A frame: takes a word, and the code of the channel that is sampled at the frame's start; gives a reply. They
+    // go one by one, as C passes them and framed takes them.
     #[tactic(auto, using(crate::proofs::Valid::reply_fits), unfolding(crate::specs::Frame::framed))]
     pub fn frame(self, word: u16, code: u16) -> Result<Exchange, Refusal>
         ensures { frame_answer self result ≡ framed self word code }

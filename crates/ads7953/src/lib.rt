@@ -36,7 +36,8 @@ pub struct Ads7953 {
     pub first: bool, // no frame since power-up
 }
 
-// The reply to a frame, and the part after it. Of its own: this part does not depend on the ADS1299's crates, and a word goes out.
+// The reply to a frame, and the part after it. Not ads1299::Exchange: this crate needs none of the ADS1299's, and a word
+// goes out, not a byte.
 #[derive(Clone, Copy)]
 pub struct Exchange {
     pub reply: u16,
@@ -52,7 +53,8 @@ impl From<Mode> for u8 {
     }
 }
 
-// Whether a word's bit is 1. Of a word: the crate bits speaks of a byte.
+// Whether a word's bit is 1. A shift, not one function with bits::is_set: that one has an answer for places above its byte, which no
+// caller here asks.
 #[tactic(auto, unfolding(bits::specs::Fields::field, bits::specs::Fields::bit))]
 fn is_set(word: u16, place: u8) -> bool
     requires { place < 16 }

@@ -5,7 +5,7 @@ ghost use Rattle.ads7953.specs.Words.{decoded, programs, retained, resets_counte
 
 use crate::is_set;
 
-// DI15-12. Beside the enum, not its numbers: the other eleven are Continue.
+// DI15-12 of a word. Not discriminants of Command: the other eleven numbers are all Continue.
 const MANUAL: u8 = 1;
 
 const AUTO1: u8 = 2;
@@ -26,7 +26,8 @@ pub(crate) enum Command {
     ProgramAuto2,
 }
 
-// The four bits of a word from one on. Of a word: the crate bits speaks of a byte.
+// The four bits of a word from one on. A shift, not one function with bits::read: that one has an answer for places above its byte, which
+// no caller here asks.
 #[tactic(auto, unfolding(bits::specs::Fields::field))]
 fn four_bits(word: u16, from: u8) -> u8
     requires { from < 16 }
@@ -35,7 +36,7 @@ fn four_bits(word: u16, from: u8) -> u8
     ((word >> from) % 16) as u8
 }
 
-// What a word asks for, where it is no list.
+// What a word asks for, where it is no list. No From: a list is no command.
 #[tactic(auto, unfolding(crate::specs::Words::decoded))]
 pub(crate) fn decode(word: u16) -> Command
     ensures { result ≡ decoded word }

@@ -46,7 +46,7 @@ impl Bench {
         Ok(self)
     }
 
-    // One converter takes a sample. Its parameters go one by one, as those of the converter's own.
+    // One converter takes a sample. Its parameters go one by one, as Converter::sample takes them.
     #[tactic(auto, using(crate::proofs::Converters::with_same), unfolding(crate::specs::Line::bench_sampled))]
     pub fn sample(mut self, number: u32, codes: &[i32], p: u8, n: u8) -> Result<Bench, Refusal>
         ensures { bench_moved_answer self result ≡ bench_sampled self number codes.now p n }

@@ -20,7 +20,8 @@ pub struct LivePlan {
     pub length: usize,
 }
 
-// One call of the planner and one store. Here and below the parameters go one by one, as bench_planner's.
+// One call of the planner and one store. Here and below the parameters go one by one, as C passes them and bench_planner::plan takes
+// them.
 pub fn plan_live(
     live: &mut Bench,
     party: u32,

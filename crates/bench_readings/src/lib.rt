@@ -30,7 +30,7 @@ pub fn read_channel(
 }
 
 // Where the channel lies in the caller's own frame; at its start, and empty, where read_channel refuses (document 01 names this form).
-// Its parameters are read_channel's.
+// Parameters as read_channel's.
 #[tactic(auto, using(lines::proofs::Numbering::mapped_below), unfolding(crate::specs::Reading::bench_part_bytes, crate::specs::Reading::bench_part_place))]
 pub fn channel_bytes(bench: Bench, number: u32, party: u32, channel: u32, frame: &[u8]) -> &[u8]
     ensures { (result.now ≡ bench_part_bytes bench number party channel frame.now)

@@ -1,5 +1,5 @@
 // A field of a byte, by its lowest bit and its width: read, replaced, and a write through a mask. Bit and width go one by one, as the
-// definitions take them; ads1299_fields::Place is the struct that has them, with their register.
+// definitions take them; ads1299_fields::Place has them with a register, which a byte as such has not.
 #![tactic(auto)]
 
 ghost use Rattle.std.specs.Prelude.{◌≡◌, cond, ◌≤◌, ◌^◌};

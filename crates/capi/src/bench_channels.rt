@@ -1,4 +1,4 @@
-// Grants and readings on a bench. `given` has a name, as in channels.rt.
+// Grants and readings on a bench. Beside channels.rt, for the reason in lib.rt.
 ghost use Rattle.std.specs.Prelude.{◌≡◌};
 ghost use Rattle.bench_grants.specs.Grant.{bench_granted};
 ghost use Rattle.bench_readings.specs.Reading.{bench_reading};
@@ -43,8 +43,8 @@ pub extern "C" fn rimevelvet_bench_read_channel(
     answers::reading(reading)
 }
 
-// Where the part that bench_readings::channel_bytes hands back lies in the frame. Not one with a converter's: the calls and the states are
-// of different types, and what both do with them is answers::locate.
+// Where the part that bench_readings::channel_bytes hands back lies in the frame. Beside a converter's: other calls on another state;
+// what the two have in common is answers::locate.
 fn locate_part(
     bench: Bench,
     number: u32,

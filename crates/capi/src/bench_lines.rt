@@ -1,5 +1,5 @@
-// A bench's power-up, and what comes on one converter's lines: a byte, a select rise and a sample. Beside converter.rt: C has a call and
-// a struct for each.
+// A bench's power-up, and what comes on one converter's lines: a byte, a select rise and a sample. Beside converter.rt, for the
+// reason in lib.rt.
 ghost use Rattle.std.specs.Prelude.{◌≡◌};
 ghost use Rattle.bench.specs.PowerUp.{bench_powered_up};
 ghost use Rattle.bench.specs.Line.{bench_stepped, bench_deselected, bench_sampled};

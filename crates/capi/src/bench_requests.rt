@@ -15,8 +15,8 @@ use flat_bench::FlatBench;
 use refusal::Refusal;
 use request::Request;
 
-// By way of the live form, on a copy of the bench. Not one with a converter's: the states, the planners and the answers are of different
-// types, and C has a struct for each. The parameters go one by one, as C passes them.
+// By way of the live form, on a copy of the bench. Beside a converter's, as requests.rt says. The parameters go
+// one by one, as C passes them.
 fn plan(
     bench: FlatBench,
     party: u32,

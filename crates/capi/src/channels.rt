@@ -1,4 +1,4 @@
-// Grants and readings. `given` has a name, as the calls do not fit on one line with it and a broken chain is no plainer.
+// Grants and readings.
 ghost use Rattle.std.specs.Prelude.{◌≡◌};
 ghost use Rattle.grants.specs.Grant.{granted};
 ghost use Rattle.readings.specs.Reading.{channel_reading};

@@ -1,5 +1,5 @@
-// The converter's entry points: power-up, a byte, a select rise and a sample. A bench's are bench_lines.rt: C has a call and a struct
-// for each.
+// The converter's entry points: power-up, a byte, a select rise and a sample. A bench's are in bench_lines.rt,
+// for the reason in lib.rt.
 ghost use Rattle.std.specs.Prelude.{◌≡◌};
 ghost use Rattle.ads1299.specs.PowerUp.{powered_up};
 ghost use Rattle.ads1299.specs.Step.{stepped};

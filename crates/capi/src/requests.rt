@@ -60,8 +60,8 @@ pub extern "C" fn rimevelvet_request_write(request: Request, buffer: &mut [u8]) 
     }
 }
 
-// Not one with a bench's: the states, the planners and the answers are of different types, and C has a struct for each. The parameters go
-// one by one, as C passes them.
+// Beside a bench's: state, planner and answer are of other types, and the clauses name each one's definitions. The parameters go one by
+// one, as C passes them.
 fn plan(
     state: FlatConverter,
     party: u32,

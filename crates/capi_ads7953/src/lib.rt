@@ -1,5 +1,5 @@
-// The ADS7953's entry points for other languages, over its flat form. No state is kept here. C has no Result: each answer has the refusal's
-// number beside its values, and a call and a struct of its own.
+// The ADS7953's entry points for other languages, over its flat form. No state is kept here. C has no Result: an answer that
+// may be a refusal is a struct of include/rimevelvet.h, its number first.
 #![tactic(auto)]
 
 ghost use Rattle.std.specs.Prelude.{◌≡◌};

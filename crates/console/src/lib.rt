@@ -70,7 +70,7 @@ fn put_answer(converter: Converter, party: u32, request: Request, writer: &mut W
     }
 }
 
-// One request, answered and printed. Where no request can be read the run ends: all bytes are done with.
+// One request, answered and printed. Where no request can be read the run ends: all bytes are done with (console.Turn.consumed).
 #[tactic(auto, using(crate::proofs::Turns::refused_line, crate::proofs::Turns::refused_turn, crate::proofs::Turns::answered_line, crate::proofs::Turns::answered_turn, refusal::proofs::Laws::refused_lem))]
 fn answer(converter: Converter, party: u32, bytes: &[u8], writer: &mut Writer) -> Turn
     requires { writer.old.place + length (printed converter party bytes.now) ≤ length writer.old.buffer.now }
@@ -129,7 +129,7 @@ fn put_transcript(input: &[u8], writer: &mut Writer)
 }
 
 // Writes what the program prints from the start of `out`, which holds the longest; bytes after it stay. Gives its length.
-// There is no heap: the buffer is the caller's, as long as the longest transcript.
+// No heap: C lends the buffer, as long as the longest transcript, and takes the length (rimevelvet_transcript).
 #[tactic(auto, using(crate::proofs::Fits::always_fits))]
 pub fn transcript(input: &[u8], out: &mut [u8; LONGEST_TRANSCRIPT]) -> usize
     ensures { (result ≡ length (transcript_of input.now))

@@ -8,8 +8,8 @@ ghost use Rattle.console.specs.Wrote.{Wrote};
 
 use refusal::Refusal;
 
-// hex_digit, put_decimal, put_hex and put_hexes are by hand: write! goes to a String and there is no heap here, the crate hex writes lower case, and
-// console.Text says every byte.
+// hex_digit, put_decimal, put_hex and put_hexes are by hand: hex::encode_upper and format! allocate and there is no heap here,
+// hex::encode_to_slice writes lower case, and what write! puts in an ArrayString would be copied once more.
 fn hex_digit(n: u8) -> u8
     requires { n < 16 }
     ensures { result ≡ hex_digit n }
@@ -17,8 +17,8 @@ fn hex_digit(n: u8) -> u8
     if n < 10 { b'0' + n } else { b'A' - 10 + n }
 }
 
-// A buffer that text is put in, and the place of the next byte.
-// planner has one like it: shared it would be public, and would ask its callers for room, which no public function here does.
+// A buffer that text is put in, and the place of the next byte. planner has one like it: shared it would be public, and would ask its
+// callers for room, which no public function here does.
 #[derive(Drop)]
 pub(crate) struct Writer<'a> {
     pub(crate) buffer: &'a mut [u8],

@@ -8,7 +8,7 @@ use ads1299::Converter;
 use ads1299_serial::{Direction, Phase, Transfer};
 use refusal::Refusal;
 
-// Bytes go one by one here and below, as the C struct has them and the definitions take them.
+// The flags, and below the bytes of an output and of a phase, go one by one, as the definitions take them.
 fn are_flags(continuous: u8, standby: u8, converting: u8) -> bool
     ensures { result ≡ are_flags continuous standby converting }
 {
@@ -33,8 +33,8 @@ fn is_phase(code: u8, direction: u8, address: u8, remaining: u8) -> bool
     }
 }
 
-// Whether the bytes stand for a state. Whether a converter can be in that state is judged by each call. Beside TryFrom: what was public
-// stays (docs/RULES.md names it).
+// Whether the bytes stand for a state. Whether a converter can be in that state is judged by each call. Beside TryFrom:
+// docs/RULES.md names it.
 #[tactic(auto, unfolding(crate::specs::States::is_state))]
 pub fn is_state(state: FlatConverter) -> bool
     ensures { result ≡ is_state state }
@@ -44,7 +44,7 @@ pub fn is_state(state: FlatConverter) -> bool
         && is_phase(state.phase, state.direction, state.address, state.remaining)
 }
 
-// No TryFrom: these cannot fail, as state_of must not, and a phase is two bytes or more.
+// No TryFrom: state_of cannot fail, so these cannot; and an output is two bytes, a phase four.
 fn direction_of(code: u8) -> Direction
     ensures { result ≡ direction_of code }
 {
@@ -76,7 +76,7 @@ fn phase_of(code: u8, transfer: Transfer) -> Phase
 pub fn state_of(state: FlatConverter) -> Converter
     ensures { result ≡ state_of state }
 {
-    // Taken apart: the check's borrow pass refuses the arrays of these fields straight in the literal below.
+    // Taken apart: with state.registers and the like in the literal, the check answers that its borrow pass does not cover it.
     let FlatConverter {
         registers,
         owners,

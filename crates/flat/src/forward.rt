@@ -7,7 +7,7 @@ use crate::FlatConverter;
 use ads1299::Converter;
 use ads1299_serial::{Direction, Phase, Transfer};
 
-// No From: the number alone is not the phase, whose transfer goes into three bytes more.
+// No From: a phase is four bytes, this number and its transfer's three.
 fn phase_code(phase: Phase) -> u8
     ensures { result ≡ phase_code phase }
 {
@@ -18,7 +18,7 @@ fn phase_code(phase: Phase) -> u8
     }
 }
 
-// The transfer under way; all 0 between commands, as the C header has it. No Default: a transfer as such has none.
+// The transfer under way; all 0 between commands. No Default: all 0 is no transfer, but what C has in its place.
 fn transfer_of(phase: Phase) -> Transfer
     ensures { result ≡ transfer_of phase }
 {

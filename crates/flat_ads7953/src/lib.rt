@@ -48,8 +48,8 @@ impl From<Ads7953> for FlatAds7953 {
     }
 }
 
-// Whether the bytes stand for a state. Whether a part can be in that state is judged by each call. Beside TryFrom: what was public stays
-// (docs/RULES.md names it).
+// Whether the bytes stand for a state. Whether a part can be in that state is judged by each call. Beside TryFrom:
+// docs/RULES.md names it.
 #[tactic(auto, unfolding(crate::specs::Flat::is_part, crate::specs::Flat::are_flags))]
 pub fn is_part(part: FlatAds7953) -> bool
     ensures { result ≡ is_part part }

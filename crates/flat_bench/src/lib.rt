@@ -16,7 +16,7 @@ pub struct FlatBench {
     pub converters: [FlatConverter; CONVERTERS],
 }
 
-// Whether every converter's flat form stands for a state. Beside TryFrom: what was public stays (docs/RULES.md names it).
+// Whether every converter's flat form stands for a state. Beside TryFrom: docs/RULES.md names it.
 pub fn is_bench(f: FlatBench) -> bool
     ensures { result ≡ is_bench f }
 {

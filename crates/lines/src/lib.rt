@@ -1,5 +1,6 @@
 // Numbers on the bench: of its channels, and of its converters, which a select line each tells apart. One mapping takes a channel's number to a
 // converter and that converter's own channel, so that every rule of one converter serves as it stands.
+// Numbers and no enum: C passes any number, and each is judged whole.
 #![tactic(auto)]
 
 ghost use Rattle.std.specs.Prelude.{◌≡◌};
@@ -14,8 +15,7 @@ const LAST_CHANNEL: u32 = (CONVERTERS * ads1299_registers::CHANNELS) as u32;
 const LAST_NUMBER: u32 = LAST_CHANNEL + CONVERTERS as u32 - 1;
 
 // What stands for the converter where a number names none: any of the four, since the channel is then refused. It and NO_CHANNEL are no
-// Options: document 02's mapping gives these numbers (definitions converter_of and local_channel of specs/Lines.antt, theorem
-// bench_planner.Refusals.RefusalsAsWorded).
+// Options: converter_of and local_channel cannot fail, and their definitions (lines.Lines) give these numbers.
 const NO_CONVERTER: u32 = 0;
 
 // A channel that no converter has.

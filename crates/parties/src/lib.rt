@@ -1,5 +1,5 @@
-// Parties and who owns what, by number (document 01, "The bench and its parties"). Numbers and no enum: any number crosses the C interface,
-// and is judged as it comes, none cut to a byte before.
+// Parties and who owns what, by number (document 01, "The bench and its parties"). Numbers and no enum: C passes any number,
+// and each is judged whole, none cut to a byte before.
 #![tactic(auto)]
 
 ghost use Rattle.std.specs.Prelude.{◌≡◌};

@@ -38,7 +38,7 @@ pub(crate) fn set_all(registers: [u8; COUNT], request: Request) -> [u8; COUNT]
     let count = request::count_values(request.field);
     let mut after = registers;
     for (i, &value) in request.values[..count].iter().enumerate() {
-        // By way of a local: the check's borrow pass refuses to store the call's array where the call reads.
+        // By way of a local: the check's borrow pass does not cover a call's result laid straight in a local array.
         let set = ads1299_settings::write(after, field_at(request, i), request.channel, value);
         after = set;
     }

@@ -13,7 +13,7 @@ const FIELD_BYTES: usize = 3;
 // The bytes that write a whole channel's: one register, and a run of five.
 const CHANNEL_BYTES: usize = FIELD_BYTES + 2 + 5;
 
-// How many bytes leave the modes that the converter is in and go back to them. Two flags, as entering and leaving take them.
+// How many bytes leave the modes that the converter is in and go back to them. The flags go one by one, as entering and leaving take them.
 fn count_modes(standby: bool, continuous: bool) -> usize
     ensures { result ≡ length (entering standby continuous) + length (leaving standby continuous) }
 {

@@ -175,8 +175,9 @@ fn change(c: Converter, request: Request) -> Converter
 }
 
 // Plans a request: the plan goes into the transmit buffer (document 01: sheet) from a place on, and all else there stays.
-// Party, request, buffer and place go one by one, as C passes them; the clauses speak of the first two by the record submission. Clause
-// formed is no invariant: the type has it, and a record of the logic, whose lists have any length, need not.
+// Party, request, buffer and place go one by one, as C passes them; the clauses put party, request and room together as submission. The
+// clause formed is no invariant of Converter: its array types give it already, and theorems need it said, since in the logic the arrays
+// are lists of any length.
 pub fn plan(
     c: Converter,
     party: u32,

@@ -66,7 +66,8 @@ pub fn read_channel(
 }
 
 // The channel's three bytes as a part of the caller's own frame, not a copy; an empty part where read_channel refuses. No Result:
-// document 01 names this form. It leaves open which empty part: the one at the frame's start was chosen. Its parameters are read_channel's.
+// document 01 names this form. It leaves open which empty part: the one at the frame's start was chosen. Parameters as
+// read_channel's.
 #[tactic(auto, using(ads1299_registers::proofs::Bounds::bounds, crate::proofs::Accepted::readable, crate::proofs::Accepted::frame_whole), unfolding(crate::specs::Reading::part_bytes, crate::specs::Reading::part_place, ads1299_readout::specs::Reading::channel_bytes))]
 pub fn channel_bytes(converter: Converter, party: u32, channel: u32, frame: &[u8]) -> &[u8]
     ensures { (result.now ≡ part_bytes converter party channel frame.now)

@@ -6,7 +6,7 @@ ghost use Rattle.std.specs.Prelude.{◌≡◌, map};
 ghost use Rattle.refusal.specs.First.{given, first_given};
 ghost use Rattle.refusal.specs.Refusals.{number_of, number_in, answer_number};
 
-// The number of success, which is no refusal's.
+// The number of success, which is no refusal's: what C's structs and the program's lines have where the code has Ok.
 pub const NONE: u8 = 0;
 
 // Why a call is refused.

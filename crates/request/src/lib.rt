@@ -32,7 +32,7 @@ const MOST_NUMBERS: usize = HEAD + VALUES;
 // Enough bytes for every request.
 const LONGEST: usize = MOST_NUMBERS * leb128::GROUPS;
 
-// A request for a whole channel uses all values, every other one the first alone. It stays an array: it crosses the C interface.
+// A request for a whole channel uses all values, every other one the first alone. `values` stays an array: it crosses the C interface.
 #[repr(C)]
 #[derive(Clone, Copy)]
 pub struct Request {

@@ -31,7 +31,7 @@ pub fn answer<R: Read, W: Write>(reader: &mut R, writer: &mut W) -> io::Result<(
     ensures { Answers (R.remaining reader.old) (R.remaining reader.new)
         (W.contents writer.old) (W.contents writer.new) result }
 {
-    // No heap: each as long as its longest.
+    // Arrays and no Vec: console::transcript takes the longest transcript's array, and no run ends for want of memory.
     let mut input = [0u8; console::INPUT_LIMIT + 1];
     let count = fill(reader, &mut input);
     let mut out = [0u8; console::LONGEST_TRANSCRIPT];
