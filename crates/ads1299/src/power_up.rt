@@ -69,6 +69,7 @@ impl Converter {
     ];
 
     // Whether an ADS1299 can have this ID: its low five bits are fixed, the top three free.
+    #[tactic(auto, unfolding(crate::specs::PowerUp::valid_id))]
     pub(crate) fn is_valid_id(id: u8) -> bool
         ensures { result ≡ valid_id id }
     {
@@ -76,6 +77,7 @@ impl Converter {
     }
 
     // The power-up state with an ID and owners: what RESET comes back to as well.
+    #[tactic(auto, unfolding(crate::specs::PowerUp::restored, ads1299_registers::specs::Table::power_up))]
     pub(crate) fn restore(id: u8, owners: [u8; ads1299_registers::CHANNELS]) -> Converter
         ensures { result ≡ restored id owners }
     {

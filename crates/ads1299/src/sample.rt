@@ -15,6 +15,7 @@ impl Converter {
         self.converting && !self.standby
     }
 
+    #[tactic(auto, unfolding(crate::specs::Sample::complete))]
     fn is_complete(codes: &[i32]) -> bool
         ensures { result ≡ complete codes.now }
     {
@@ -32,6 +33,7 @@ impl Converter {
         ])
     }
 
+    #[tactic(auto, unfolding(crate::specs::Sample::with_status))]
     fn with_status(
         mut registers: [u8; ads1299_registers::COUNT],
         p: u8,
@@ -58,6 +60,7 @@ impl Converter {
 
     // Takes a sample: the codes of channels 1 to 8, and the comparator bytes P and N. Codes, P and N go one by one, as C passes them
     // and as sampled and frame_of take them.
+    #[tactic(auto, using(refusal::proofs::Laws::refused_lem), unfolding(crate::specs::Sample::sampled))]
     pub fn sample(self, codes: &[i32], p: u8, n: u8) -> Result<Converter, Refusal>
         ensures { moved_answer self result ≡ sampled self codes.now p n }
     {

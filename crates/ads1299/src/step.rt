@@ -22,6 +22,7 @@ impl Converter {
     }
 
     // The registers after a write through the mask: dropped above the last register.
+    #[tactic(auto, unfolding(crate::specs::Registers::written, ads1299_registers::specs::Table::masks))]
     fn write(
         mut registers: [u8; ads1299_registers::COUNT],
         address: u8,
@@ -49,6 +50,7 @@ impl Converter {
     }
 
     // An ignored byte lets the output run on.
+    #[tactic(auto, unfolding(crate::specs::Output::ignored))]
     fn ignore(self) -> Converter
         ensures { result ≡ ignored self }
     {
@@ -67,6 +69,7 @@ impl Converter {
         }))
     }
 
+    #[tactic(auto, unfolding(crate::specs::Step::effect))]
     fn reset(self) -> Converter
         ensures { result ≡ effect Command.Reset self }
     {
@@ -74,6 +77,7 @@ impl Converter {
     }
 
     // The latest frame goes out, from its first byte.
+    #[tactic(auto, unfolding(crate::specs::Output::loaded))]
     pub(crate) fn load(self) -> Converter
         ensures { result ≡ loaded self }
     {
@@ -87,6 +91,7 @@ impl Converter {
 
     // What a command that acts does, once the output is empty.
     // A match and no table of functions: the commands are the data sheet's closed list, and each arm says what one does.
+    #[tactic(auto, unfolding(crate::specs::Step::effect))]
     fn perform(self, command: Command) -> Converter
         ensures { result ≡ effect command self }
     {
@@ -123,6 +128,7 @@ impl Converter {
         }
     }
 
+    #[tactic(auto, unfolding(crate::specs::Step::commanded, crate::specs::Output::emptied))]
     fn command(self, command: Command) -> Converter
         ensures { result ≡ commanded self command }
     {
@@ -133,6 +139,7 @@ impl Converter {
         }
     }
 
+    #[tactic(auto, unfolding(crate::specs::Step::counted))]
     fn count(self, transfer: Transfer, byte: u8) -> Converter
         ensures { result ≡ counted self transfer byte }
     {
@@ -164,6 +171,7 @@ impl Converter {
         }
     }
 
+    #[tactic(auto, unfolding(crate::specs::Step::followed))]
     fn follow(self, byte: u8) -> Converter
         ensures { result ≡ followed self byte }
     {
@@ -175,6 +183,7 @@ impl Converter {
     }
 
     // Takes a byte in and gives one out.
+    #[tactic(auto, unfolding(crate::specs::Step::stepped))]
     pub fn step(self, byte: u8) -> Result<Exchange<Converter>, Refusal>
         ensures { step_answer self result ≡ stepped self byte }
     {
@@ -188,6 +197,7 @@ impl Converter {
     }
 
     // The select line rises: a command half given ends, and the output is empty.
+    #[tactic(auto, unfolding(crate::specs::Deselect::deselected, crate::specs::Output::emptied))]
     pub fn deselect(self) -> Result<Converter, Refusal>
         ensures { moved_answer self result ≡ deselected self }
     {

@@ -44,6 +44,7 @@ pub struct Decoded {
 }
 
 // Whether a number is a code.
+#[tactic(auto, unfolding(crate::specs::Codes::in_range))]
 fn in_range(code: i32) -> bool
     ensures { result ≡ in_range code }
 {
@@ -59,6 +60,7 @@ pub fn all_in_range(codes: &[i32]) -> bool
 
 // The code of three bytes, high byte first. There is no branch: adding SIGN_WORD within 24 bits takes the words from it on round to 0,
 // and taking it off again leaves them below zero.
+#[tactic(auto, using(crate::proofs::Codes::offset_code), unfolding(crate::specs::Words::word))]
 fn code(high: u8, middle: u8, low: u8) -> i32
     ensures { result ≡ code_of (word high middle low) }
 {
@@ -100,6 +102,7 @@ pub fn rail_number(rail: Rail) -> u8
 }
 
 // The low 24 bits of an integer in two's complement.
+#[tactic(auto, using(crate::proofs::Codes::cast_word))]
 fn word_of(code: i32) -> u32
     ensures { result ≡ word_of code }
 {

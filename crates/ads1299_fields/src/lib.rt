@@ -134,6 +134,7 @@ pub fn locate(field: u32, channel: u32) -> Place
 }
 
 // Whether a request may set the field to this value; false where the number is no field's.
+#[tactic(auto, using(crate::proofs::Rows::known, crate::proofs::Rows::unknown, crate::proofs::Rows::fits_row, crate::proofs::Rows::refused_row), unfolding(crate::specs::Values::legal))]
 pub fn is_legal(field: u32, value: u32) -> bool
     ensures { result ≡ legal field value }
 {
@@ -144,6 +145,7 @@ pub fn is_legal(field: u32, value: u32) -> bool
 }
 
 // Whether the registers can hold the value in the field of the channel, legal or not.
+#[tactic(auto, using(crate::proofs::Rows::known, crate::proofs::Rows::unknown, crate::proofs::Rows::fits_row), unfolding(crate::specs::Values::settable, crate::specs::Names::named))]
 pub fn is_settable(field: u32, channel: u32, value: u32) -> bool
     ensures { result ≡ settable field channel value }
 {

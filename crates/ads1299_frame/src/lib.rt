@@ -31,6 +31,7 @@ fn shown(registers: [u8; ads1299_registers::COUNT], codes: &[i32], channel: usiz
 }
 
 // The three bytes of the status word, in which P and N lie each across two bytes.
+#[tactic(auto, unfolding(ads1299_codes::specs::Words::word_bytes, crate::specs::Frame::status_word))]
 fn status_bytes(p: u8, n: u8, gpio: u8) -> [u8; WORD_LENGTH]
     ensures { result ≡ word_bytes (status_word p n gpio) }
 {

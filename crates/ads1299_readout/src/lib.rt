@@ -48,6 +48,7 @@ fn lead_off(frame: &[u8], at: usize, channel: u32) -> bool
 
 // A channel's lead-off bit of P. P and N have a function each: both are public, and their clauses are the definitions lead_off_p and
 // lead_off_n.
+#[tactic(auto, using(crate::proofs::Reading::across_p), unfolding(crate::specs::Reading::lead_off_p))]
 pub fn lead_off_p(frame: &[u8], channel: u32) -> bool
     ensures { result ≡ lead_off_p frame.now channel }
 {
@@ -55,6 +56,7 @@ pub fn lead_off_p(frame: &[u8], channel: u32) -> bool
 }
 
 // A channel's lead-off bit of N.
+#[tactic(auto, using(crate::proofs::Reading::across_n), unfolding(crate::specs::Reading::lead_off_n))]
 pub fn lead_off_n(frame: &[u8], channel: u32) -> bool
     ensures { result ≡ lead_off_n frame.now channel }
 {

@@ -69,6 +69,7 @@ pub fn is_valid_phase(phase: Phase, interruptible: bool) -> bool
 }
 
 // Where a transfer stands after its second byte, the number of registers minus one.
+#[tactic(auto, unfolding(crate::specs::Transfers::begun))]
 pub fn begin(transfer: Transfer, byte: u8) -> Phase
     ensures { result ≡ begun transfer byte }
 {
@@ -83,6 +84,7 @@ pub fn begin(transfer: Transfer, byte: u8) -> Phase
 }
 
 // Where a transfer stands after one more of its registers. No converter counts where the tests fail, so that no sum can overflow.
+#[tactic(auto, using(crate::proofs::Transfers::bounds), unfolding(crate::specs::Transfers::remainder))]
 pub fn remain(transfer: Transfer) -> Phase
     ensures { result ≡ remainder transfer }
 {

@@ -25,6 +25,7 @@ impl Bench {
     }
 
     // Each converter as its own power-up gives it.
+    #[tactic(auto, unfolding(crate::specs::PowerUp::started))]
     fn start(ids: [u8; CONVERTERS]) -> Bench
         ensures { result ≡ started ids }
     {

@@ -43,6 +43,7 @@ pub fn plan_live(
 }
 
 // The same as plan, by way of a local bench that is lent: its parameters are plain.
+#[tactic(auto, using(bench_planner::proofs::Kept::kept))]
 pub fn plan_borrowed(
     bench: Bench,
     party: u32,

@@ -36,6 +36,7 @@ pub extern "C" fn rimevelvet_ads7953_power_up() -> FlatAds7953
 }
 
 // A frame of the state that the bytes stand for.
+#[tactic(auto, using(crate::proofs::Answers::stands, crate::proofs::Answers::frame_judged, crate::proofs::Answers::frame_refused))]
 fn frame(part: FlatAds7953, word: u16, code: u16) -> Result<Exchange, Refusal>
     ensures { flat_frame_answer part result ≡ framed_from part (framed (part_of part) word code) }
 {

@@ -17,6 +17,7 @@ pub struct FlatBench {
 }
 
 // Whether every converter's flat form stands for a state. Beside TryFrom: docs/RULES.md names it.
+#[tactic(auto, using(crate::proofs::RoundTrip::by_number), unfolding(crate::specs::Flat::is_bench))]
 pub fn is_bench(f: FlatBench) -> bool
     ensures { result ≡ is_bench f }
 {
@@ -24,6 +25,7 @@ pub fn is_bench(f: FlatBench) -> bool
 }
 
 // The bench that a flat form stands for; of no use where is_bench says no. It stays beside TryFrom, as what could not fail still cannot.
+#[tactic(auto, using(crate::proofs::RoundTrip::four_are), unfolding(crate::specs::Flat::bench_of))]
 pub fn bench_of(f: FlatBench) -> Bench
     ensures { result ≡ bench_of f }
 {
@@ -51,6 +53,7 @@ impl TryFrom<FlatBench> for Bench {
 impl From<Bench> for FlatBench {
     ghost from_gives = { λ bench f. f ≡ flat_bench bench };
 
+    #[tactic(auto, using(crate::proofs::RoundTrip::four_are), unfolding(crate::specs::Flat::flat_bench))]
     fn from(bench: Bench) -> FlatBench {
         FlatBench {
             converters: bench.converters.map(FlatConverter::from),

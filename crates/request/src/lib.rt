@@ -73,6 +73,7 @@ fn read_series(bytes: &[u8], count: usize) -> Result<Decoded<ArrayVec<u32, MOST_
 }
 
 // The request that numbers are: the values that its field does not use are 0.
+#[tactic(auto, using(crate::proofs::Padding::drop_zeros), unfolding(crate::specs::Requests::request_of, leb128::specs::Encoding::padded))]
 fn request_of(numbers: &[u32]) -> Request
     requires { (fewest_numbers ≤ length numbers.now) × (length numbers.now ≤ most_numbers) }
     ensures { result ≡ request_of numbers.now }
