@@ -1,5 +1,5 @@
-// The flat answer for every case of what a call hands back. Where it is refused, the bytes that were given stand in it: they come beside
-// the Result, so that this is no From.
+// The flat answer for every case of what a call hands back: From for a reading and a part. A refused step, move or plan hands back the
+// bytes that were given, which are no part of its Result, and so is a function.
 ghost use Rattle.std.specs.Prelude.{◌≡◌};
 ghost use Rattle.readings.specs.Answers.{reading_answer};
 ghost use Rattle.capi.specs.Answers.{flat_reading};
@@ -74,25 +74,27 @@ pub(crate) fn planned(state: FlatConverter, planned: Result<ConverterPlan, Refus
 }
 
 // A refused reading is 0 but for its number.
-#[tactic(auto, unfolding(crate::specs::Answers::flat_reading))]
-pub(crate) fn reading(reading: Result<Readout, Refusal>) -> FlatReading
-    ensures { result ≡ flat_reading (reading_answer reading) }
-{
-    match reading {
-        Ok(readout) => FlatReading {
-            refusal: refusal::NONE,
-            p: u8::from(readout.p),
-            n: u8::from(readout.n),
-            rail: u8::from(readout.rail),
-            code: readout.code,
-        },
-        Err(refusal) => FlatReading {
-            refusal: u8::from(refusal),
-            p: 0,
-            n: 0,
-            rail: u8::from(Rail::Neither),
-            code: 0,
-        },
+impl From<Result<Readout, Refusal>> for FlatReading {
+    ghost from_gives = { λ reading f. f ≡ flat_reading (reading_answer reading) };
+
+    #[tactic(auto, unfolding(crate::specs::Answers::flat_reading))]
+    fn from(reading: Result<Readout, Refusal>) -> FlatReading {
+        match reading {
+            Ok(readout) => FlatReading {
+                refusal: refusal::NONE,
+                p: u8::from(readout.p),
+                n: u8::from(readout.n),
+                rail: u8::from(readout.rail),
+                code: readout.code,
+            },
+            Err(refusal) => FlatReading {
+                refusal: u8::from(refusal),
+                p: 0,
+                n: 0,
+                rail: u8::from(Rail::Neither),
+                code: 0,
+            },
+        }
     }
 }
 
@@ -111,19 +113,21 @@ pub(crate) fn locate(
     })
 }
 
-pub(crate) fn part(located: Result<Located, Refusal>) -> FlatPart
-    ensures { result ≡ flat_part_answer located }
-{
-    match located {
-        Ok(part) => FlatPart {
-            refusal: refusal::NONE,
-            start: part.start,
-            length: part.length,
-        },
-        Err(refusal) => FlatPart {
-            refusal: u8::from(refusal),
-            start: 0,
-            length: 0,
-        },
+impl From<Result<Located, Refusal>> for FlatPart {
+    ghost from_gives = { λ located f. f ≡ flat_part_answer located };
+
+    fn from(located: Result<Located, Refusal>) -> FlatPart {
+        match located {
+            Ok(part) => FlatPart {
+                refusal: refusal::NONE,
+                start: part.start,
+                length: part.length,
+            },
+            Err(refusal) => FlatPart {
+                refusal: u8::from(refusal),
+                start: 0,
+                length: 0,
+            },
+        }
     }
 }

@@ -40,7 +40,7 @@ pub extern "C" fn rimevelvet_bench_read_channel(
 {
     let given = Bench::try_from(bench);
     let reading = given.and_then(|before| read_channel(before, number, party, channel, frame));
-    answers::reading(reading)
+    FlatReading::from(reading)
 }
 
 // Where the part that bench_readings::channel_bytes hands back lies in the frame. Beside a converter's: other calls on another state;
@@ -71,5 +71,5 @@ pub extern "C" fn rimevelvet_bench_channel_bytes(
 {
     let given = Bench::try_from(bench);
     let part = given.and_then(|before| locate_part(before, number, party, channel, frame));
-    answers::part(part)
+    FlatPart::from(part)
 }

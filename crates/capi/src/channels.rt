@@ -37,7 +37,7 @@ pub extern "C" fn rimevelvet_read_channel(
 {
     let given = Converter::try_from(state);
     let reading = given.and_then(|before| readings::read_channel(before, party, channel, frame));
-    answers::reading(reading)
+    FlatReading::from(reading)
 }
 
 // Where the part that readings::channel_bytes hands back lies in the frame.
@@ -65,5 +65,5 @@ pub extern "C" fn rimevelvet_channel_bytes(
 {
     let given = Converter::try_from(state);
     let part = given.and_then(|before| locate_part(before, party, channel, frame));
-    answers::part(part)
+    FlatPart::from(part)
 }

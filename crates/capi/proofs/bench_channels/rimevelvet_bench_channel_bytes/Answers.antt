@@ -6,6 +6,6 @@ use Rattle.capi.proofs.bench_channels.rimevelvet_bench_channel_bytes.Goals as go
 
 pub returns : goal.returns
 returns c =
-    c.part.ensures
+    c.from.ensures
     ∙ bench_part_through c.args.bench (λ b. bench_part b c.args.number c.args.party c.args.channel c.args.frame.now) c.try_from-given.result c.and_then-part.result c.try_from-given.ensures
     (MatchResult-weaker c.try_from-given.result c.and_then-part.ensures (λ b p. search rules) (λ e q. q))

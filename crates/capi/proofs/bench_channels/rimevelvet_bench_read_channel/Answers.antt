@@ -6,6 +6,6 @@ use Rattle.capi.proofs.bench_channels.rimevelvet_bench_read_channel.Goals as goa
 
 pub returns : goal.returns
 returns c =
-    c.reading.ensures
+    c.from.ensures
     ∙ bench_reading_through c.args.bench (λ b. bench_reading b c.args.number c.args.party c.args.channel c.args.frame.now) c.try_from-given.result c.and_then-reading.result c.try_from-given.ensures
     (MatchResult-weaker c.try_from-given.result c.and_then-reading.ensures (λ b p. search rules) (λ e q. q))
