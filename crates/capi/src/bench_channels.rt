@@ -45,6 +45,7 @@ pub extern "C" fn rimevelvet_bench_read_channel(
 
 // Where the part that bench_readings::channel_bytes hands back lies in the frame. Not one with a converter's: the calls and the states are
 // of different types, and what both do with them is answers::locate.
+#[tactic(auto, using(crate::proofs::BenchParts::bench_part_located))]
 fn locate_part(
     bench: Bench,
     number: u32,
