@@ -45,6 +45,7 @@ pub extern "C" fn rimevelvet_bench_read_channel(
 
 // Where the part that bench_readings::channel_bytes hands back lies in the frame. Beside a converter's: other calls on another state;
 // what the two have in common is answers::locate.
+#[tactic(auto, using(crate::proofs::BenchParts::bench_part_located))]
 fn locate_part(
     bench: Bench,
     number: u32,

@@ -41,6 +41,7 @@ pub extern "C" fn rimevelvet_read_channel(
 }
 
 // Where the part that readings::channel_bytes hands back lies in the frame.
+#[tactic(auto, using(crate::proofs::Parts::part_located))]
 fn locate_part(
     converter: Converter,
     party: u32,

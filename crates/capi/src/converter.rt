@@ -32,6 +32,7 @@ pub extern "C" fn rimevelvet_step(state: FlatConverter, byte: u8) -> FlatStepped
     answers::stepped(state, stepped)
 }
 
+#[tactic(auto, using(crate::proofs::Answered::moved_through))]
 #[unsafe(no_mangle)]
 pub extern "C" fn rimevelvet_deselect(state: FlatConverter) -> FlatMoved
     ensures { result ≡ moved_from state (deselected (state_of state)) }
