@@ -54,7 +54,7 @@ fn decode_register_command(byte: u8) -> Command
     }
 }
 
-// What a byte means while the converter waits. No From: otherwise a byte is no command.
+// What a byte means while the converter waits. No From: while it does not wait, the same byte is a count or data.
 #[tactic(auto, unfolding(crate::specs::Commands::decoded))]
 pub fn decode(byte: u8) -> Command
     ensures { result ≡ decoded byte }

@@ -1,17 +1,27 @@
-// The flat answer for every case of what a call hands back: From for a reading and a part. A refused step, move or plan hands back the
-// bytes that were given, which are no part of its Result, and so is a function.
+// The flat answers. Where the Result has all that C is told, From; of a step, a move and a plan functions, since what a refused one hands
+// back, the bytes that were given, is no part of its Result.
 ghost use Rattle.std.specs.Prelude.{◌≡◌};
 ghost use Rattle.readings.specs.Answers.{reading_answer};
-ghost use Rattle.capi.specs.Answers.{flat_reading};
+ghost use Rattle.request.specs.Results.{read_answer, write_answer};
+ghost use Rattle.capi.specs.Answers.{flat_reading, flat_parsed, flat_written};
 ghost use Rattle.capi.specs.Results.{flat_step_answer, flat_moved_answer, flat_plan_answer, flat_part_answer, located};
 
-use crate::{FlatMoved, FlatPart, FlatPlanned, FlatReading, FlatStepped};
+use crate::{FlatMoved, FlatParsed, FlatPart, FlatPlanned, FlatReading, FlatStepped, FlatWritten};
 use ads1299::{Converter, Exchange};
 use ads1299_codes::{Rail, WORD_LENGTH};
 use flat::FlatConverter;
+use leb128::Decoded;
 use planner::ConverterPlan;
 use readings::Readout;
 use refusal::Refusal;
+use request::Request;
+
+// What a refused read answers in the request's place: C has no Option.
+const NO_REQUEST: Request = Request {
+    field: 0,
+    channel: 0,
+    values: [0; request::VALUES],
+};
 
 // Where a channel's bytes lie in a frame. start and length are C's; a Range would be taken apart again.
 #[derive(Clone, Copy)]
@@ -127,6 +137,43 @@ impl From<Result<Located, Refusal>> for FlatPart {
                 refusal: u8::from(refusal),
                 start: 0,
                 length: 0,
+            },
+        }
+    }
+}
+
+impl From<Result<Decoded<Request>, Refusal>> for FlatParsed {
+    ghost from_gives = { λ read f. f ≡ flat_parsed (read_answer read) };
+
+    #[tactic(auto, unfolding(request::specs::Requests::padded))]
+    fn from(read: Result<Decoded<Request>, Refusal>) -> FlatParsed {
+        match read {
+            Ok(found) => FlatParsed {
+                refusal: refusal::NONE,
+                request: found.value,
+                used: found.used,
+            },
+            Err(refusal) => FlatParsed {
+                refusal: u8::from(refusal),
+                request: NO_REQUEST,
+                used: 0,
+            },
+        }
+    }
+}
+
+impl From<Result<usize, Refusal>> for FlatWritten {
+    ghost from_gives = { λ written f. f ≡ flat_written (write_answer written) };
+
+    fn from(written: Result<usize, Refusal>) -> FlatWritten {
+        match written {
+            Ok(used) => FlatWritten {
+                refusal: refusal::NONE,
+                used,
+            },
+            Err(refusal) => FlatWritten {
+                refusal: u8::from(refusal),
+                used: 0,
             },
         }
     }

@@ -1,5 +1,5 @@
-// The flat answer of a bench for every case of what a call hands back. C has a struct of its own for each; one
-// generic function would state its contract by From's member for any flat type, and two matches are plainer.
+// A bench's flat answers. Beside answers.rt, for the reason in lib.rt: a function over both would be generic in the flat state and in C's
+// struct, and would say what it gives by their From; a match for each is plainer.
 ghost use Rattle.std.specs.Prelude.{◌≡◌};
 ghost use Rattle.capi.specs.Results.{flat_bench_step_answer, flat_bench_moved_answer, flat_bench_plan_answer};
 

@@ -1,6 +1,7 @@
 // The library for other languages: every entry point as a C function, over a state and answers that are plain numbers. No state is
 // kept here. C has no Result: an answer that may be a refusal is a struct of include/rimevelvet.h, its number first. A converter and a
-// bench have a call and a struct each: none with a type parameter crosses to C (the check's unsupported-generic-in-c).
+// bench have a call each, and a struct each where it has the state: none with a type parameter crosses to C (the check's
+// unsupported-generic-in-c).
 #![tactic(auto)]
 
 mod answers;

@@ -17,30 +17,11 @@ use planner::ConverterPlan;
 use refusal::Refusal;
 use request::Request;
 
-// What a refused read answers in the request's place.
-const NO_REQUEST: Request = Request {
-    field: 0,
-    channel: 0,
-    values: [0; request::VALUES],
-};
-
-#[tactic(auto, unfolding(request::specs::Requests::padded))]
 #[unsafe(no_mangle)]
 pub extern "C" fn rimevelvet_request_read(bytes: &[u8]) -> FlatParsed
     ensures { result ≡ flat_parsed (parsed bytes.now) }
 {
-    match request::read(bytes) {
-        Ok(found) => FlatParsed {
-            refusal: refusal::NONE,
-            request: found.value,
-            used: found.used,
-        },
-        Err(refusal) => FlatParsed {
-            refusal: u8::from(refusal),
-            request: NO_REQUEST,
-            used: 0,
-        },
-    }
+    FlatParsed::from(request::read(bytes))
 }
 
 #[unsafe(no_mangle)]
@@ -48,16 +29,7 @@ pub extern "C" fn rimevelvet_request_write(request: Request, buffer: &mut [u8]) 
     ensures { (result ≡ flat_written (written request buffer.old))
         × (buffer.new ≡ buffer_after request buffer.old) }
 {
-    match request::write(request, buffer) {
-        Ok(used) => FlatWritten {
-            refusal: refusal::NONE,
-            used,
-        },
-        Err(refusal) => FlatWritten {
-            refusal: u8::from(refusal),
-            used: 0,
-        },
-    }
+    FlatWritten::from(request::write(request, buffer))
 }
 
 // Beside a bench's: state, planner and answer are of other types, and the clauses name each one's definitions. The parameters go one by

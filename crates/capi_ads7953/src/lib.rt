@@ -28,6 +28,23 @@ pub struct FlatListPlanned {
     pub length: usize,
 }
 
+impl From<Result<usize, Refusal>> for FlatListPlanned {
+    ghost from_gives = { λ planned f. f ≡ flat_list_answer planned };
+
+    fn from(planned: Result<usize, Refusal>) -> FlatListPlanned {
+        match planned {
+            Ok(length) => FlatListPlanned {
+                refusal: refusal::NONE,
+                length,
+            },
+            Err(refusal) => FlatListPlanned {
+                refusal: u8::from(refusal),
+                length: 0,
+            },
+        }
+    }
+}
+
 #[unsafe(no_mangle)]
 pub extern "C" fn rimevelvet_ads7953_power_up() -> FlatAds7953
     ensures { result ≡ flat_part powered_up }
@@ -47,6 +64,7 @@ fn frame(part: FlatAds7953, word: u16, code: u16) -> Result<Exchange, Refusal>
 pub extern "C" fn rimevelvet_ads7953_frame(part: FlatAds7953, word: u16, code: u16) -> FlatFramed
     ensures { result ≡ framed_from part (framed (part_of part) word code) }
 {
+    // No From: what a refused frame hands back, the bytes that were given, is no part of its Result.
     match frame(part, word, code) {
         Ok(exchange) => FlatFramed {
             refusal: refusal::NONE,
@@ -87,14 +105,5 @@ pub extern "C" fn rimevelvet_ads7953_plan_list(
     ensures { (result ≡ list_planned_from part (list_planned (part_of part) party list (room_at tx.old at)))
         × (tx.new ≡ list_buffer_from part (list_tx_after (part_of part) party list tx.old at) tx.old) }
 {
-    match plan_list(part, party, list, tx, at) {
-        Ok(length) => FlatListPlanned {
-            refusal: refusal::NONE,
-            length,
-        },
-        Err(refusal) => FlatListPlanned {
-            refusal: u8::from(refusal),
-            length: 0,
-        },
-    }
+    FlatListPlanned::from(plan_list(part, party, list, tx, at))
 }

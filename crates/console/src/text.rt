@@ -17,8 +17,9 @@ fn hex_digit(n: u8) -> u8
     if n < 10 { b'0' + n } else { b'A' - 10 + n }
 }
 
-// A buffer that text is put in, and the place of the next byte. planner has one like it: shared it would be public, and would ask its
-// callers for room, which no public function here does.
+// A buffer that text is put in, and the place of the next byte. No Vec or ArrayVec: the buffer is lent, and bytes after the text stay.
+// planner has one like it: shared it would be public and ask its callers for room, and no public function asks anything of its caller
+// (README, "What is proved").
 #[derive(Drop)]
 pub(crate) struct Writer<'a> {
     pub(crate) buffer: &'a mut [u8],

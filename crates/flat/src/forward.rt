@@ -18,7 +18,7 @@ fn phase_code(phase: Phase) -> u8
     }
 }
 
-// The transfer under way; all 0 between commands. No Default: all 0 is no transfer, but what C has in its place.
+// The transfer under way. No Option: between commands C has 0 in all three bytes, and so has the definition transfer_of.
 fn transfer_of(phase: Phase) -> Transfer
     ensures { result ≡ transfer_of phase }
 {

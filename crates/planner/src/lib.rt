@@ -38,7 +38,8 @@ pub struct ConverterPlan {
     pub next: Converter,
 }
 
-// The owner of a channel field is the channel's, that of a shared field the administrator.
+// The owner of a channel field is the channel's, that of a shared field the administrator. Field and channel go one by one, as field_owner
+// takes them.
 #[tactic(auto, unfolding(parties::specs::Parties::is_admin, parties::specs::Owners::owns))]
 fn is_field_owner(
     owners: [u8; ads1299_registers::CHANNELS],
@@ -82,7 +83,8 @@ fn judge(c: Converter, party: u32, request: Request, room: usize) -> Result<(), 
     ])
 }
 
-// A buffer that bytes are put in one after the other, and the place of the next.
+// A buffer that bytes are put in one after the other, and the place of the next. No Vec or ArrayVec: the buffer is the caller's, and all
+// else in it stays. console has one like it, and the reason for two.
 #[derive(Drop)]
 struct Writer<'a> {
     buffer: &'a mut [u8],
@@ -99,7 +101,7 @@ impl Writer<'_> {
         self.place = end;
     }
 
-    // Puts a byte where it is wanted.
+    // Puts a byte where it is wanted. No Option: flag and byte are a mode and its command, and the definition only takes them so.
     fn put_only(&mut self, wanted: bool, byte: u8)
         requires { self.old.place + length (only wanted byte) ≤ length self.old.buffer.now }
         ensures { Wrote self.old self.new (only wanted byte) }
