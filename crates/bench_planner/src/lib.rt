@@ -37,6 +37,7 @@ fn localise(request: Request) -> Request
 
 // Plans a request into the transmit buffer from a place on, by the named converter, once every converter passes 13.
 // The parameters go one by one, as C passes them and the definition takes them.
+#[tactic(auto, using(lines::proofs::Numbering::mapped_below, bench::proofs::Converters::with_same, refusal::proofs::Laws::refused_lem), unfolding(crate::specs::Planned::bench_planned, crate::specs::Buffer::bench_tx_after))]
 pub fn plan(
     mut bench: Bench,
     party: u32,
