@@ -120,6 +120,7 @@ pub fn takes_channel(field: u32, channel: u32) -> bool
 
 // Where the field of the channel lies; all 0 where these name nothing.
 // No Option: the contract is `place`, which has a place for every two numbers, and what could not fail still can't.
+#[tactic(auto, using(crate::proofs::Rows::known, crate::proofs::Rows::unknown), unfolding(crate::specs::Places::place, crate::specs::Names::named))]
 pub fn locate(field: u32, channel: u32) -> Place
     ensures { result ≡ place field channel }
 {

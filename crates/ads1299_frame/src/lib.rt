@@ -63,6 +63,7 @@ fn word_bytes(
 }
 
 // The frame of a sample, word by word. A code that is not given counts as 0, and those after the eighth are not looked at.
+#[tactic(auto, unfolding(ads1299_codes::specs::Words::joined, crate::specs::Frame::frame_of))]
 pub fn build(registers: [u8; ads1299_registers::COUNT], codes: &[i32], p: u8, n: u8) -> [u8; LENGTH]
     ensures { result ≡ frame_of registers codes.now p n }
 {

@@ -80,6 +80,7 @@ pub extern "C" fn rimevelvet_ads7953_frame(part: FlatAds7953, word: u16, code: u
 }
 
 // A list for the part whose state the bytes stand for. The parameters go one by one, as C passes them.
+#[tactic(auto, using(crate::proofs::Answers::stands, crate::proofs::Answers::list_judged, crate::proofs::Answers::buffer_judged))]
 fn plan_list(
     part: FlatAds7953,
     party: u32,

@@ -32,6 +32,7 @@ pub(crate) fn are_legal(request: Request) -> bool
 }
 
 // The registers with every setting of the request made.
+#[tactic(auto, using(crate::proofs::Settings::settings_start, crate::proofs::Settings::settings_step, crate::proofs::Settings::settings_end), unfolding(crate::specs::Plan::registers_after, ads1299_settings::specs::Settings::with_settings))]
 pub(crate) fn set_all(registers: [u8; COUNT], request: Request) -> [u8; COUNT]
     ensures { result ≡ registers_after registers request }
 {

@@ -180,6 +180,7 @@ fn change(c: Converter, request: Request) -> Converter
 // Party, request, buffer and place go one by one, as C passes them; the clauses put party, request and room together as submission. The
 // clause formed is no invariant of Converter: its array types give it already, and theorems need it said, since in the logic the arrays
 // are lists of any length.
+#[tactic(auto, using(crate::proofs::Buffer::start_within))]
 pub fn plan(
     c: Converter,
     party: u32,

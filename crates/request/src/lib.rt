@@ -53,6 +53,7 @@ pub fn count_values(field: u32) -> usize
 }
 
 // So many numbers from the bytes' start on, or the refusal of the first that has one.
+#[tactic(auto, using(crate::proofs::Reading::ends))]
 fn read_series(bytes: &[u8], count: usize) -> Result<Decoded<ArrayVec<u32, MOST_NUMBERS>>, Refusal>
     requires { count ≤ most_numbers }
     ensures judged { answer_number result ≡ first_of (series groups count bytes.now).refusals }
@@ -114,6 +115,7 @@ fn numbers_of(request: Request) -> ArrayVec<u32, MOST_NUMBERS>
 }
 
 // The bytes of all numbers, for a copy; refused where one is too large to be written.
+#[tactic(auto, using(crate::proofs::Writing::ends))]
 fn stage(numbers: &[u32]) -> Result<ArrayVec<u8, LONGEST>, Refusal>
     requires { length numbers.now ≤ most_numbers }
     ensures judged { answer_number result ≡ cond (writable groups numbers.now) none bad_value }

@@ -10,6 +10,7 @@ use std::io::{Input, Print, Read, Write};
 
 // Reads until the buffer is full, the input ends or a read fails, and gives how many bytes it put at the buffer's start. A loop
 // by hand: a read gives any number of bytes, and read_exact would lose the count where the input is shorter.
+#[tactic(auto, using(crate::proofs::Filling::nothing, crate::proofs::Filling::more, crate::proofs::Filling::end, crate::proofs::Filling::failed))]
 fn fill<R: Read>(reader: &mut R, buffer: &mut [u8]) -> usize
     ensures bound { result ≤ length buffer.new }
     ensures bytes { Consumes (R.remaining reader.old) (R.remaining reader.new) (take result buffer.new) }

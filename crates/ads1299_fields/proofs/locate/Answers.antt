@@ -1,7 +1,7 @@
 use Prim.Native.Nat.{ℕ, ◌+◌, ◌*◌, ◌-◌, ◌≤◌, ◌<◌}
 use Rattle.ads1299_registers.specs.Addresses.{register_count}
 use Rattle.ads1299_fields.proofs.Apart.{place_inside}
-use Rattle.ads1299_fields.proofs.Rows.{Known, known, unknown}
+use Rattle.ads1299_fields.proofs.Rows.{Known, known}
 use Rattle.ads1299_fields.specs.Names.{takes_channel, named}
 use Rattle.ads1299_fields.specs.Places.{place}
 use Rattle.ads1299_fields.specs.declared.Entry.{Entry}
@@ -18,23 +18,7 @@ inside f n e k t =
     let i = place_inside f n h in
     rw k.same (rw h at i.in_list, rw h at i.in_byte)
 
-pub returns-in_default : goal.returns-in_default
-unfolding place named
-returns-in_default c = simp (unknown c.args.field _ c.look_up.ensures c.in_default.is)
-
 pub place-requires : goal.place-requires
 place-requires c =
     let r = known c.args.field _ _ c.look_up.ensures c.in-Some.is in
     rw c.saturating_sub.ensures (inside c.args.field c.args.channel _ r (sym c.takes_channel.ensures ∙ c.if-takes_channel.true))
-
-pub returns-then-takes_channel : goal.returns-then-takes_channel
-unfolding place named
-returns-then-takes_channel c =
-    let r = known c.args.field _ _ c.look_up.ensures c.in-Some.is in
-    simp (r.field, ← c.takes_channel.ensures, c.if-takes_channel.true, c.place.ensures, r.same, c.saturating_sub.ensures)
-
-pub returns-else-takes_channel : goal.returns-else-takes_channel
-unfolding place named
-returns-else-takes_channel c =
-    let r = known c.args.field _ _ c.look_up.ensures c.in-Some.is in
-    simp (r.field, ← c.takes_channel.ensures, c.if-takes_channel.false)

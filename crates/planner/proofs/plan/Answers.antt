@@ -2,7 +2,7 @@
 use mathlib.Core.Path.{refl, sym}
 use Rattle.std.proofs.lemmas.Result.{err_from_is_err_and}
 use Rattle.planner.specs.Submission.{submission}
-use Rattle.planner.proofs.Buffer.{refused, has_passed, start_within, in_part, planned_in}
+use Rattle.planner.proofs.Buffer.{refused, has_passed, in_part, planned_in}
 use Rattle.planner.proofs.plan.Goals as goal
 
 pub returns-in_err-judge-clause-planned : goal.returns-in_err-judge-clause-planned
@@ -11,18 +11,6 @@ returns-in_err-judge-clause-planned c =
     let p = err_from_is_err_and c.from_residual.result c.from_residual.ensures.1 in
     rw (p.1, p.2)
     (refused a.c (submission a.party a.request a.tx.now a.at) a.tx.now a.at _ (rw c.count_room.ensures at (c.in_err-judge.ensures.judged)))
-
-pub slice_bounds-write_plan-count : goal.slice_bounds-write_plan-count
-slice_bounds-write_plan-count c =
-    let a = c.args in
-    let agreed = sym (rw c.count_room.ensures at c.in_ok-judge.ensures.judged) in
-    start_within a.c (submission a.party a.request a.tx.now a.at) a.tx.now a.at refl agreed
-
-pub slice_bounds-write_plan-start : goal.slice_bounds-write_plan-start
-slice_bounds-write_plan-start c =
-    let a = c.args in
-    let agreed = sym (rw c.count_room.ensures at c.in_ok-judge.ensures.judged) in
-    start_within a.c (submission a.party a.request a.tx.now a.at) a.tx.now a.at refl agreed
 
 pub write_plan-requires : goal.write_plan-requires
 write_plan-requires c =

@@ -11,7 +11,7 @@ use Rattle.refusal.proofs.Laws.{refused_lem}
 use Rattle.leb128.specs.Answers.{Number}
 use Rattle.leb128.specs.Numbers.{groups}
 use Rattle.leb128.specs.Decoding.{decoded}
-use Rattle.request.proofs.Reading.{stops, within_more, goes_on, ends}
+use Rattle.request.proofs.Reading.{stops, within_more, goes_on}
 use Rattle.request.proofs.read_series.Goals as goal
 
 -- the number at the loop's place
@@ -33,12 +33,3 @@ pub loop-preserved : goal.loop-preserved
 loop-preserved c =
     let is = number c.args.bytes.now c.loop.used _ c.in_ok-number.ensures in
     rw c.push.ensures.items (goes_on c.loop.invariant c.loop-test.true _ is refl)
-
-pub returns-clause-judged : goal.returns-clause-judged
-returns-clause-judged c = (ends c.loop.invariant c.loop-test.false).0
-
-pub returns-clause-numbers : goal.returns-clause-numbers
-returns-clause-numbers c = (ends c.loop.invariant c.loop-test.false).1.0
-
-pub returns-clause-used : goal.returns-clause-used
-returns-clause-used c = (ends c.loop.invariant c.loop-test.false).1.1

@@ -2,7 +2,7 @@
 use Rattle.std.proofs.lemmas.Result.{err_from_is_err_and}
 use Rattle.refusal.proofs.Laws.{refused_lem}
 use Rattle.leb128.proofs.Results.{encoded_ok, encoded_err}
-use Rattle.request.proofs.Writing.{stops, goes_on, ends}
+use Rattle.request.proofs.Writing.{stops, goes_on}
 use Rattle.request.proofs.stage.Goals as goal
 
 pub returns-in_err-bytes-clause-judged : goal.returns-in_err-bytes-clause-judged
@@ -16,9 +16,3 @@ loop-number-preserved c =
     let e = encoded_ok _ _ c.in_ok-bytes.ensures in
     let all = rw c.unwrap.ensures at c.try_extend_from_slice.ensures.ok in
     rw (all, c.deref.ensures.0, e.1) (goes_on c.loop-number.invariant c.loop-number-test.true e.0)
-
-pub returns-clause-judged : goal.returns-clause-judged
-returns-clause-judged c = rw (ends c.loop-number.invariant c.loop-number-test.false).0
-
-pub returns-clause-whole : goal.returns-clause-whole
-returns-clause-whole c = (ends c.loop-number.invariant c.loop-number-test.false).1
