@@ -6,7 +6,7 @@ use native.Mathlib.Omega.{arith}
 use lib.ListN.{length, length-append}
 use Rattle.splice.specs.Splice.{spliced}
 use Rattle.splice.proofs.Splice.{splices_join, fitting_laid, nothing_spliced}
-use Rattle.console.specs.declared.text.Writer.{Writer}
+use Rattle.console.specs.declared.Writer.{Writer}
 use Rattle.console.specs.Wrote.{Wrote}
 
 pub nothing : (w : Writer) → Wrote w w []

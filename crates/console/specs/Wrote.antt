@@ -1,7 +1,7 @@
 -- What a writer has done.
 use Rattle.std.specs.Prelude.{ℕ, ◌+◌, ◌≡◌, List, length}
 use Rattle.splice.specs.Splice.{spliced}
-use Rattle.console.specs.declared.text.Writer.{Writer}
+use Rattle.console.specs.declared.Writer.{Writer}
 
 -- the text lies in the same buffer, from the place on, and the next place is after it
 pub record Wrote (before after : Writer) (text : List ℕ) : Type 0 where

@@ -1,7 +1,7 @@
 -- The loop keeps that there is room for the lines of the rest, and that who puts them puts the whole session: nothing is said of the requests passed.
 use Prim.Native.Nat.{◌+◌, ◌≤◌}
 use lib.ListN.{length}
-use Rattle.console.specs.declared.text.Writer.{Writer}
+use Rattle.console.specs.declared.Writer.{Writer}
 use Rattle.console.specs.Turn.{fresh}
 use Rattle.console.specs.Transcript.{session}
 use Rattle.console.specs.Wrote.{Wrote}

@@ -4,7 +4,7 @@ use lib.ListN.{length-append}
 use Rattle.console.specs.Text.{newline, decimal, hexes}
 use Rattle.console.specs.Line.{line}
 use Rattle.console.proofs.Writing.{both}
-use Rattle.console.proofs.text.Writer.put_line.Goals as goal
+use Rattle.console.proofs.Writer.put_line.Goals as goal
 
 pub returns : goal.returns
 unfolding line

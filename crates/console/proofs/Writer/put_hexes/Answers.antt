@@ -3,11 +3,11 @@ use mathlib.Core.Path.{ap}
 use mathlib.Core.List.{List, ◌++◌}
 use Prim.Native.Nat.{ℕ, ◌+◌, ◌≤◌, ◌<◌}
 use lib.ListN.{length, take, get_or}
-use Rattle.console.specs.declared.text.Writer.{Writer}
+use Rattle.console.specs.declared.Writer.{Writer}
 use Rattle.console.specs.Text.{hex, hexes}
 use Rattle.console.proofs.Texts.{length_hexes, hexes_so_far, next_hex}
 use Rattle.console.proofs.Writing.{room_left, both}
-use Rattle.console.proofs.text.Writer.put_hexes.Goals as goal
+use Rattle.console.proofs.Writer.put_hexes.Goals as goal
 
 -- there is room for one more
 next_room : (w : Writer) (bytes : List ℕ) (i : ℕ) → i < length bytes → w.place + length (hexes bytes) ≤ length w.buffer.now
