@@ -1,7 +1,7 @@
 -- A plan in the transmit buffer, put there piece by piece.
 use Rattle.std.specs.Prelude.{Ok, Err}
 use Prim.Native.Nat.{ℕ, ◌+◌, ◌-◌, ◌≤◌}
-use mathlib.Core.Path.{◌≡◌, ◌∙◌, ap}
+use mathlib.Core.Path.{◌≡◌, ◌∙◌}
 use mathlib.Core.Bool.{true, false}
 use mathlib.Core.List.{List, ◌++◌}
 use native.Mathlib.Omega.{arith}
@@ -10,7 +10,7 @@ use borrow.Rule.Slice.PartMut.{put_mid}
 use lib.ListN.{length, take, drop, length-append, length-drop}
 use lib.Seq.{take_all}
 use Rattle.splice.specs.Splice.{spliced}
-use Rattle.splice.proofs.Splice.{splices_join, fitting_laid, part_spliced}
+use Rattle.splice.proofs.Splice.{room_after, laid_after, part_spliced}
 use Rattle.refusal.specs.Numbers.{none}
 use Rattle.refusal.specs.First.{accepted}
 use Rattle.refusal.specs.declared.Refusal.{Refusal}
@@ -28,12 +28,9 @@ use Rattle.planner.proofs.Accepted.{Passed, passed}
 use Rattle.planner.proofs.Length.{few_runs, plan_length_lem}
 
 module _ {before middle : Writer} {first : List ℕ} (p : Wrote before middle first) where
-  wrote_size : before.place + length first ≤ length before.buffer.now → length middle.buffer.now ≡ length before.buffer.now
-  wrote_size h = ap length p.buffer ∙ (fitting_laid before.buffer.now before.place first h).size
-
   -- room that the buffer has beyond the bytes is left after them
   pub room_left : (more : ℕ) → before.place + (length first + more) ≤ length before.buffer.now → middle.place + more ≤ length middle.buffer.now
-  room_left more h = omega (arith, p.place, wrote_size (omega arith))
+  room_left = room_after before.buffer.now before.place first p.place p.buffer
 
   -- bytes written after bytes
   pub both : {after : Writer} {second : List ℕ} → Wrote middle after second → before.place + (length first + length second) ≤ length before.buffer.now
@@ -42,7 +39,7 @@ module _ {before middle : Writer} {first : List ℕ} (p : Wrote before middle fi
       record {
         same = q.same ∙ p.same;
         place = q.place ∙ omega (arith, p.place, length-append first second);
-        buffer = q.buffer ∙ (λ i. spliced (p.buffer i) (p.place i) second) ∙ splices_join before.buffer.now before.place first second h;
+        buffer = laid_after before.buffer.now before.place first p.place p.buffer second q.buffer h;
       }
 
 module _ (s : Converter) (x : Submission) (tx : List ℕ) (at : ℕ) where

@@ -42,6 +42,16 @@ splices_join buffer at first second h =
     ∙ sym (sets_append first second buffer at)
     ∙ stores_splice buffer at (first ++ second) (omega arith)
 
+-- bytes laid right after others, in the buffer that those left
+module _ (buffer : List ℕ) (at : ℕ) (first : List ℕ) {left : List ℕ} {next : ℕ} (place : next ≡ at + length first) (laid : left ≡ spliced buffer at first) where
+  -- room that the buffer has beyond the first is left after them
+  pub room_after : (more : ℕ) → at + (length first + more) ≤ length buffer → next + more ≤ length left
+  room_after more h = omega (arith, place, ap length laid ∙ (fitting_laid buffer at first (omega arith)).size)
+
+  pub laid_after : (second : List ℕ) {last : List ℕ} → last ≡ spliced left next second → at + (length first + length second) ≤ length buffer
+      → last ≡ spliced buffer at (first ++ second)
+  laid_after second e h = e ∙ (λ i. spliced (laid i) (place i) second) ∙ splices_join buffer at first second h
+
 pub nothing_spliced : NothingSpliced
 nothing_spliced buffer at = rw (add-zero at, append-nil (take at buffer)) (take-append-drop at buffer)
 
