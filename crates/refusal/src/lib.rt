@@ -2,6 +2,8 @@
 // the same names for definitions.
 #![tactic(auto)]
 
+pub mod numbers;
+
 ghost use Rattle.std.specs.Prelude.{◌≡◌, map};
 ghost use Rattle.refusal.specs.First.{given, first_given};
 ghost use Rattle.refusal.specs.Refusals.{number_of, number_in, answer_number};
