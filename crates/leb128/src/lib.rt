@@ -7,7 +7,6 @@ ghost use Rattle.leb128.specs.Encoding.{encoded_array};
 ghost use Rattle.leb128.specs.Decoding.{decoded};
 ghost use Rattle.leb128.specs.Results.{read_answer, encode_answer};
 
-use arrayvec::ArrayVec;
 use refusal::Refusal;
 
 // How many values a group has. A group that another one follows has this added, its byte's top bit.
@@ -23,6 +22,13 @@ pub const LARGEST: u32 = BASE * BASE - 1;
 #[derive(Clone, Copy, Debug, PartialEq, Eq)]
 pub struct Decoded<T> {
     pub value: T,
+    pub used: usize,
+}
+
+// A number's bytes, of which the first `used` count; the others are 0. No ArrayVec: what encode answers is Copy, which that is not.
+#[derive(Clone, Copy, Debug, PartialEq, Eq)]
+pub struct Encoded {
+    pub bytes: [u8; GROUPS],
     pub used: usize,
 }
 
@@ -49,19 +55,22 @@ pub fn read(bytes: &[u8]) -> Result<Decoded<u32>, Refusal>
 }
 
 // The bytes of a number; refused above the largest.
-#[tactic(auto, using(crate::proofs::TwoGroups::too_large, crate::proofs::TwoGroups::in_one, crate::proofs::TwoGroups::in_two))]
-pub fn encode(value: u32) -> Result<ArrayVec<u8, GROUPS>, Refusal>
+#[tactic(auto, using(crate::proofs::TwoGroups::too_large, crate::proofs::TwoGroups::in_one, crate::proofs::TwoGroups::in_two), unfolding(crate::specs::Encoding::padded))]
+pub fn encode(value: u32) -> Result<Encoded, Refusal>
     ensures { encode_answer result ≡ encoded_array value }
 {
     if LARGEST < value {
         return Err(Refusal::BadValue);
     }
-    let mut bytes = ArrayVec::new();
     if value < BASE {
-        bytes.push(value as u8);
-    } else {
-        bytes.push((BASE + value % BASE) as u8);
-        bytes.push((value / BASE) as u8);
+        return Ok(Encoded {
+            bytes: [value as u8, 0],
+            used: 1,
+        });
     }
-    Ok(bytes)
+    let bytes = [(BASE + value % BASE) as u8, (value / BASE) as u8];
+    Ok(Encoded {
+        bytes,
+        used: bytes.len(),
+    })
 }

@@ -6,7 +6,8 @@ use native.Mathlib.Nat.{zero-add, add-zero, add_assoc}
 use native.Mathlib.Omega.{arith}
 use borrow.Author.Tests.{eq-eqb, ne_eqb}
 use lib.Dec.{eqb}
-use lib.ListN.{length, drop, length-append, length-drop}
+use lib.ListN.{length, take, drop, set, length-append, length-drop}
+use Rattle.std.proofs.lemmas.List.{take_more_set}
 use lib.Seq.{drop-drop}
 use Rattle.refusal.specs.Numbers.{none}
 use Rattle.refusal.specs.First.{first_of}
@@ -60,6 +61,12 @@ pub ends : {count : ℕ} {bytes numbers : List ℕ} {used i : ℕ} → Halfway c
 unfolding series
 ends {count} {bytes} {numbers} {used} {i} so_far h = let e : count - i ≡ 0 = omega arith in
     (sym (so_far.judged ∙ rw e), (sym (so_far.same ∙ rw e (append-nil numbers)), sym (so_far.counted ∙ rw e (add-zero used))))
+
+-- the numbers so far are those before a place of an array, in which the next one is set there
+pub stored : {count : ℕ} {bytes : List ℕ} {used i : ℕ} (numbers : List ℕ) → i < length numbers → Halfway count bytes (take i numbers) used i → i < count
+    → (number : Number) → number ≡ decoded groups (drop used bytes) → number.refusal ≡ none
+    → Halfway count bytes (take (i + 1) (set numbers i number.value)) (used + number.used) (i + 1)
+stored {i = i} numbers within so_far more number is ok = rw (take_more_set numbers i number.value within) (goes_on so_far more number is ok)
 
 pub few_values : (f : ℕ) → (1 ≤ value_count f) × (value_count f ≤ most_values)
 few_values f = split (eqb f whole_channel) (λ a. rw a (omega arith, omega arith)) (λ a. rw a (omega arith, omega arith))

@@ -7,8 +7,9 @@ ghost use Rattle.refusal.specs.Numbers.{none, bad_value};
 ghost use Rattle.refusal.specs.First.{first_of};
 ghost use Rattle.refusal.specs.Refusals.{answer_number};
 ghost use Rattle.leb128.specs.Numbers.{groups};
+ghost use Rattle.leb128.specs.Encoding.{padded};
 ghost use Rattle.leb128.specs.Series.{series, series_bytes, writable};
-ghost use Rattle.request.specs.Requests.{most_numbers, fewest_numbers, value_count, numbers_of, request_of};
+ghost use Rattle.request.specs.Requests.{most_numbers, longest, value_count, numbers_of, request_of};
 ghost use Rattle.request.specs.Reading.{parsed};
 ghost use Rattle.request.specs.Writing.{written, buffer_after};
 ghost use Rattle.request.specs.Results.{read_answer, write_answer};
@@ -52,19 +53,20 @@ pub fn count_values(field: u32) -> usize
     }
 }
 
-// So many numbers from the bytes' start on, or the refusal of the first that has one.
+// So many numbers from the bytes' start on, the others 0, or the refusal of the first that has one. No ArrayVec: with one in the Result
+// reading a request took 2.3 times the time. By index: no clause says what the array holds after an iter_mut().take(count).
 #[tactic(auto, using(crate::proofs::Reading::ends))]
-fn read_series(bytes: &[u8], count: usize) -> Result<Decoded<ArrayVec<u32, MOST_NUMBERS>>, Refusal>
+fn read_series(bytes: &[u8], count: usize) -> Result<Decoded<[u32; MOST_NUMBERS]>, Refusal>
     requires { count ≤ most_numbers }
     ensures judged { answer_number result ≡ first_of (series groups count bytes.now).refusals }
-    ensures numbers { IfOk result (λ s. s.value.items ≡ (series groups count bytes.now).numbers) }
+    ensures numbers { IfOk result (λ s. s.value ≡ padded most_numbers (series groups count bytes.now).numbers) }
     ensures used { IfOk result (λ s. s.used ≡ (series groups count bytes.now).used) }
 {
-    let mut numbers = ArrayVec::new();
+    let mut numbers = [0; MOST_NUMBERS];
     let mut used = 0;
-    for _ in 0..count {
+    for i in 0..count {
         let number = leb128::read(&bytes[used..])?;
-        numbers.push(number.value);
+        numbers[i] = number.value;
         used += number.used;
     }
     Ok(Decoded {
@@ -73,14 +75,13 @@ fn read_series(bytes: &[u8], count: usize) -> Result<Decoded<ArrayVec<u32, MOST_
     })
 }
 
-// The request that numbers are: the values that its field does not use are 0.
-#[tactic(auto, using(crate::proofs::Padding::drop_zeros), unfolding(crate::specs::Requests::request_of, leb128::specs::Encoding::padded))]
-fn request_of(numbers: &[u32]) -> Request
-    requires { (fewest_numbers ≤ length numbers.now) × (length numbers.now ≤ most_numbers) }
-    ensures { result ≡ request_of numbers.now }
+// The request that numbers are.
+#[tactic(auto, unfolding(crate::specs::Requests::request_of, leb128::specs::Encoding::padded))]
+fn request_of(numbers: [u32; MOST_NUMBERS]) -> Request
+    ensures { result ≡ request_of numbers }
 {
     let mut values = [0; VALUES];
-    values[..numbers.len() - HEAD].copy_from_slice(&numbers[HEAD..]);
+    values.copy_from_slice(&numbers[HEAD..]);
     Request {
         field: numbers[0],
         channel: numbers[1],
@@ -96,7 +97,7 @@ pub fn read(bytes: &[u8]) -> Result<Decoded<Request>, Refusal>
     let field = leb128::read(bytes)?.value;
     let series = read_series(bytes, HEAD + count_values(field))?;
     Ok(Decoded {
-        value: request_of(&series.value),
+        value: request_of(series.value),
         used: series.used,
     })
 }
@@ -120,11 +121,14 @@ fn stage(numbers: &[u32]) -> Result<ArrayVec<u8, LONGEST>, Refusal>
     requires { length numbers.now ≤ most_numbers }
     ensures judged { answer_number result ≡ cond (writable groups numbers.now) none bad_value }
     ensures whole { IfOk result (λ staged. staged.items ≡ series_bytes groups numbers.now) }
+    ensures room { IfOk result (λ staged. length staged.items ≤ longest) }
 {
     let mut staged = ArrayVec::new();
     for number in numbers {
-        let bytes = leb128::encode(*number)?;
-        staged.try_extend_from_slice(&bytes).unwrap();
+        let encoded = leb128::encode(*number)?;
+        staged
+            .try_extend_from_slice(&encoded.bytes[..encoded.used])
+            .unwrap();
     }
     Ok(staged)
 }
