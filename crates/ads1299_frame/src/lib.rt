@@ -1,9 +1,10 @@
 // The frame of a sample: nine words of 24 bits, each three bytes (document 01, "Samples and frames").
 #![tactic(auto)]
 
-ghost use Rattle.std.specs.Prelude.{◌≡◌, ◌<◌, ◌≤◌};
+ghost use Rattle.std.specs.Prelude.{◌≡◌, ◌*◌, ◌<◌, ◌≤◌};
+ghost use Rattle.splice.specs.Splice.{spliced};
 ghost use Rattle.ads1299_registers.specs.Addresses.{channel_count};
-ghost use Rattle.ads1299_codes.specs.Words.{word_bytes};
+ghost use Rattle.ads1299_codes.specs.Words.{word_length, word_bytes};
 ghost use Rattle.ads1299_frame.specs.Frame.{shown, status_word, frame_word, frame_of};
 
 use ads1299_codes::WORD_LENGTH;
@@ -62,6 +63,15 @@ fn word_bytes(
     }
 }
 
+// Puts the bytes of word i in their place.
+fn put(frame: &mut [u8; LENGTH], i: usize, bytes: [u8; WORD_LENGTH])
+    requires { i ≤ channel_count }
+    ensures { frame.new ≡ spliced frame.old (word_length * i) bytes }
+{
+    let at = WORD_LENGTH * i;
+    frame[at..at + WORD_LENGTH].copy_from_slice(&bytes);
+}
+
 // The frame of a sample, word by word. A code that is not given counts as 0, and those after the eighth are not looked at.
 #[tactic(auto, unfolding(ads1299_codes::specs::Words::joined, crate::specs::Frame::frame_of))]
 pub fn build(registers: [u8; ads1299_registers::COUNT], codes: &[i32], p: u8, n: u8) -> [u8; LENGTH]
@@ -70,9 +80,7 @@ pub fn build(registers: [u8; ads1299_registers::COUNT], codes: &[i32], p: u8, n:
     let mut frame = [0u8; LENGTH];
     // By index: with chunks_exact_mut the proof does not close, since no clause says what the frame holds once that borrow is over.
     for i in 0..WORDS {
-        let bytes = word_bytes(registers, codes, p, n, i);
-        let at = WORD_LENGTH * i;
-        frame[at..at + WORD_LENGTH].copy_from_slice(&bytes);
+        put(&mut frame, i, word_bytes(registers, codes, p, n, i));
     }
     frame
 }
