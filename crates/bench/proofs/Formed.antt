@@ -29,7 +29,7 @@ formed_of s u p =
       shifting = record { size = search rules; bytes = λ i. byte (get_or s.shifting i 0) (search rules) };
     }
 
-each_formed : (l : List Converter) (us : List Val) → shadow (each (S.the_row).Denot (S.the_row).own_val l us)
+pub each_formed : (l : List Converter) (us : List Val) → shadow (each (S.the_row).Denot (S.the_row).own_val l us)
     → (k : ℕ) → k < length l → Formed (get_or l k blank)
 each_formed [] us p k h = absurd (omega (arith, h))
 each_formed (s ∷ l) [] p k h = absurd p

@@ -29,8 +29,16 @@ pub fn is_bench(f: FlatBench) -> bool
 pub fn bench_of(f: FlatBench) -> Bench
     ensures { result ≡ bench_of f }
 {
+    // By a pattern, here and in From below: [T; N]::map takes the array through an iterator, and a call on a bench took 1.5 to
+    // 1.7 times the time with it.
+    let [first, second, third, fourth] = f.converters;
     Bench {
-        converters: f.converters.map(|state| flat::state_of(state)),
+        converters: [
+            flat::state_of(first),
+            flat::state_of(second),
+            flat::state_of(third),
+            flat::state_of(fourth),
+        ],
     }
 }
 
@@ -55,8 +63,14 @@ impl From<Bench> for FlatBench {
 
     #[tactic(auto, using(crate::proofs::RoundTrip::four_are), unfolding(crate::specs::Flat::flat_bench))]
     fn from(bench: Bench) -> FlatBench {
+        let [first, second, third, fourth] = bench.converters;
         FlatBench {
-            converters: bench.converters.map(FlatConverter::from),
+            converters: [
+                FlatConverter::from(first),
+                FlatConverter::from(second),
+                FlatConverter::from(third),
+                FlatConverter::from(fourth),
+            ],
         }
     }
 }
