@@ -141,7 +141,8 @@ pub fn wrong_builds() -> Vec<String> {
     found
 }
 
-/// Every public function of a library, as its crate and its own name.
+/// Every public function of a library, as its crate and its own name: an impl of `From` is one by the name `from`, of `TryFrom`
+/// `try_from`.
 pub fn public_functions() -> Vec<(String, String)> {
     let mut found = Vec::new();
     for krate in libraries() {
@@ -153,6 +154,12 @@ pub fn public_functions() -> Vec<(String, String)> {
                     .or_else(|| line.strip_prefix("pub extern \"C\" fn "));
                 if let Some((name, _)) = rest.and_then(|rest| rest.split_once(['(', '<'])) {
                     found.push((krate.clone(), name.to_owned()));
+                }
+                if line.starts_with("impl From<") {
+                    found.push((krate.clone(), "from".to_owned()));
+                }
+                if line.starts_with("impl TryFrom<") {
+                    found.push((krate.clone(), "try_from".to_owned()));
                 }
             }
         }
