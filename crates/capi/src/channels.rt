@@ -26,6 +26,7 @@ pub extern "C" fn rimevelvet_grant(
     answers::moved(state, granted)
 }
 
+#[tactic(auto, unfolding(crate::specs::Answers::reading_from, crate::specs::Answers::refused_reading, crate::specs::Answers::flat_reading))]
 #[unsafe(no_mangle)]
 pub extern "C" fn rimevelvet_read_channel(
     state: FlatConverter,

@@ -24,6 +24,7 @@ pub extern "C" fn rimevelvet_power_up(id: u8) -> FlatPoweredUp
     }
 }
 
+#[tactic(auto, unfolding(crate::specs::Answers::stepped_from))]
 #[unsafe(no_mangle)]
 pub extern "C" fn rimevelvet_step(state: FlatConverter, byte: u8) -> FlatStepped
     ensures { result ≡ stepped_from state (stepped (state_of state) byte) }
